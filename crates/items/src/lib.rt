@@ -1,0 +1,5 @@
+// What a monitor is fed: items, the faults that end a list of them, and the interface of what gives them.
+pub mod cause;
+pub mod item;
+pub mod make;
+pub mod source;
