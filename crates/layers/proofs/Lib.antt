@@ -1,0 +1,2 @@
+pub mod Queueing
+pub mod Storing
