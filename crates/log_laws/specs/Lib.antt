@@ -1,0 +1,4 @@
+pub mod Written
+pub mod Breaks
+pub mod Laws
+pub mod Checks
