@@ -1,0 +1,5 @@
+pub mod Contents
+pub mod Operations
+pub mod Readers
+pub mod Stacks
+pub mod Texts
