@@ -1,5 +1,5 @@
 -- What a queue does to its own items, to the source below and to that source's queues.
-use Prim.Native.Nat.{ℕ, suc, min, _+_, _-_, _<_, _≤_}
+use Prim.Native.Nat.{ℕ, _+_, _-_, _<_, _≤_}
 use native.Mathlib.Omega.{arith}
 use lib.ListN.{length, getD, take, drop}
 use lib.Dec.{eqb}

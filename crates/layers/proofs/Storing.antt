@@ -7,7 +7,7 @@ use lib.ListN.{length, getD, take, drop, set}
 use mathlib.Core.Bool.{Bool, true, false, cond}
 use mathlib.Core.List.{List, [], _∷_, _++_}
 use mathlib.Core.Logic.{_≢_}
-use mathlib.Core.Path.{_≡_, refl, ap, sym, _∙_}
+use mathlib.Core.Path.{_≡_, ap, sym, _∙_}
 use Rattle.std.proofs.shelf.Lists.{getD-set-other, getD-set-same, map-append, take-append-le, take-more-set}
 use Rattle.std.proofs.shelf.Tests.{and-from, lt-ltb, ne-eqb, not-from-false}
 use Rattle.std.specs.declared.result.Result.the-variants.{Ok, Err}

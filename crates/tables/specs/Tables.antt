@@ -17,7 +17,7 @@ use Rattle.tables.specs.declared.op.Op.{Op}
 use Rattle.tables.specs.declared.op.Op.the-variants.{Number, Now, Past, Held, Window, Add, Subtract, Multiply, Less, Equal, Choose}
 use Rattle.tables.specs.declared.op.Pace.{Pace}
 use Rattle.tables.specs.declared.op.Pace.the-variants.{Event, Every}
-use Rattle.tables.specs.Kinds.{Output, Said, Table, Trigger, input, life, output, trigger}
+use Rattle.tables.specs.Kinds.{Said, Table, input, life, output, trigger}
 use Rattle.tables.specs.Reading.{content, test, windows-in}
 use Rattle.tables.specs.Rules.{no-circle, output-keeps, trigger-keeps}
 

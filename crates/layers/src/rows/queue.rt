@@ -1,10 +1,9 @@
 // The queue: a layer that keeps up to 64 items of the source below.
-ghost use Prim.Native.Nat.{ℕ, _+_, _-_, _<_, _≤_};
+ghost use Prim.Native.Nat.{_+_, _-_, _<_, _≤_};
 ghost use lib.ListN.{length, take};
 ghost use mathlib.Core.Bool.{cond};
 ghost use mathlib.Core.List.{[], _∷_};
 ghost use mathlib.Core.Path.{_≡_};
-ghost use Rattle.items.specs.Sources.{Kept, Filled};
 ghost use Rattle.std.specs.declared.result.Result.the-variants.{Ok};
 ghost use Rattle.layers.specs.Layers as layers;
 ghost use Rattle.layers.specs.Layers.{kept, FilledQueue, MovedOne, PutQueue, TookQueue};
