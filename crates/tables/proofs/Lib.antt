@@ -3,4 +3,3 @@ pub mod Operations
 pub mod Readers
 pub mod Stacks
 pub mod Texts
-pub mod SamePrograms

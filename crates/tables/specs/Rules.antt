@@ -1,5 +1,5 @@
--- The rules on what streams an output and a trigger may name, as tests, and what outputs an output asks.
-use Rattle.std.specs.Prelude.{ℕ, ◌+◌, ◌-◌, ◌/◌, ◌%◌, Bool, true, false, cond, not, ◌&&◌, ◌||◌, List, [], ◌∷◌, ◌++◌, length, Some, None, Option, ◌==◌, nat_le, nat_lt, slice_index_or}
+-- The rules on what streams an output and a trigger may name, and circles, as tests.
+use Rattle.std.specs.Prelude.{ℕ, zero, suc, ◌+◌, ◌-◌, ◌/◌, ◌%◌, Bool, true, false, cond, not, ◌&&◌, ◌||◌, List, [], ◌∷◌, ◌++◌, length, ◌==◌, nat_le, nat_lt, slice_index_or}
 use Rattle.tables.specs.declared.op.Op.{Op}
 use Rattle.tables.specs.declared.op.Op.TheVariants.{Number, Now, Past, Held, Window, Add, Subtract, Multiply, Less, Equal, Choose}
 use Rattle.tables.specs.declared.op.Pace.{Pace}
@@ -15,9 +15,6 @@ output_at t a = slice_index_or t.outputs a nothing
 abbrev pub streams : Table → ℕ
 streams t = length t.inputs + length t.outputs
 
-abbrev pub has_stream : Table → ℕ → Bool
-has_stream t s = nat_lt s (streams t)
-
 -- an input, like an event-based output, goes with readings
 abbrev pub pace_of : Table → ℕ → Pace
 pace_of t s = cond (nat_lt s (length t.inputs)) Event (output_at t (s - length t.inputs)).pace
@@ -32,23 +29,19 @@ keeps_pace Event (Every q) = false
 keeps_pace (Every p) Event = false
 keeps_pace (Every p) (Every q) = divides q p
 
--- a duration is 1 to 16 panes of a period
-abbrev pub has_panes : (period duration : ℕ) → Bool
-has_panes period duration = divides period duration && (nat_le 1 (duration / period) && nat_le (duration / period) 16)
-
 -- a window stands in a periodic output, over an input or an event-based output, and has 1 to 16 panes of the period
 abbrev pub spans : Pace → Pace → ℕ → Bool
 spans Event q duration = false
-spans (Every p) Event duration = has_panes p duration
+spans (Every p) Event duration = divides p duration && (nat_le 1 (duration / p) && nat_le (duration / p) 16)
 spans (Every p) (Every q) duration = false
 
 -- the operation may stand in the output that is stream `me` and has this pace: the stream that it names exists, it names its own output only by past, and the paces fit
 abbrev pub may : Table → (me : ℕ) → Pace → Op → Bool
 may t me p (Number v) = true
-may t me p (Now s) = has_stream t s && (not (s == me) && keeps_pace p (pace_of t s))
-may t me p (Past s b d) = has_stream t s && (s == me || keeps_pace p (pace_of t s))
-may t me p (Held s d) = has_stream t s && not (s == me)
-may t me p (Window s a u d) = has_stream t s && (not (s == me) && spans p (pace_of t s) u)
+may t me p (Now s) = nat_lt s (streams t) && (not (s == me) && keeps_pace p (pace_of t s))
+may t me p (Past s b d) = nat_lt s (streams t) && (s == me || keeps_pace p (pace_of t s))
+may t me p (Held s d) = nat_lt s (streams t) && not (s == me)
+may t me p (Window s a u d) = nat_lt s (streams t) && (not (s == me) && spans p (pace_of t s) u)
 may t me p Add = true
 may t me p Subtract = true
 may t me p Multiply = true
@@ -90,31 +83,23 @@ output_keeps t me o = all (may t me o.pace) o.ops && driven me o.pace o.ops
 abbrev pub trigger_keeps : Table → Trigger → Bool
 trigger_keeps t g = nat_le (length t.inputs) g.stream && nat_lt g.stream (streams t)
 
--- the stream that an operation reads by now, past or held
-abbrev pub asked_stream : Op → Option ℕ
-asked_stream (Number v) = None
-asked_stream (Now s) = Some s
-asked_stream (Past s b d) = Some s
-asked_stream (Held s d) = Some s
-asked_stream (Window s k u d) = None
-asked_stream Add = None
-asked_stream Subtract = None
-asked_stream Multiply = None
-asked_stream Less = None
-asked_stream Equal = None
-asked_stream Choose = None
-
--- the output that the output `a` asks where it reads a stream, behind so many inputs: none for an input or itself
+-- the output that the output `a` asks for its layer where it names the stream, behind so many inputs: none for an input or itself
 abbrev pub other : (inputs a stream : ℕ) → List ℕ
 other inputs a stream = cond (nat_le inputs stream && not (stream == inputs + a)) ((stream - inputs) ∷ []) []
 
-abbrev pub other_at : (inputs a : ℕ) → Option ℕ → List ℕ
-other_at inputs a None = []
-other_at inputs a (Some stream) = other inputs a stream
-
--- the outputs that an operation of the output `a` asks; windows and an output's own past do not count
+-- the outputs that an operation reads by now, past or held; windows and an output's own past do not count
 abbrev pub asks : (inputs a : ℕ) → Op → List ℕ
-asks inputs a o = other_at inputs a (asked_stream o)
+asks inputs a (Number v) = []
+asks inputs a (Now s) = other inputs a s
+asks inputs a (Past s b d) = other inputs a s
+asks inputs a (Held s d) = other inputs a s
+asks inputs a (Window s k u d) = []
+asks inputs a Add = []
+asks inputs a Subtract = []
+asks inputs a Multiply = []
+asks inputs a Less = []
+asks inputs a Equal = []
+asks inputs a Choose = []
 
 abbrev pub asked : (inputs a : ℕ) → List Op → List ℕ
 asked inputs a [] = []
@@ -122,3 +107,16 @@ asked inputs a (o ∷ os) = asks inputs a o ++ asked inputs a os
 
 abbrev pub reads : Table → ℕ → List ℕ
 reads t a = asked (length t.inputs) a (output_at t a).ops
+
+-- every chain of reads from an output is shorter than this
+abbrev pub ends : (ℕ → List ℕ) → ℕ → ℕ → Bool
+ends r zero a = false
+ends r (suc d) a = all (ends r d) (r a)
+
+abbrev pub below : (ℕ → Bool) → ℕ → Bool
+below f zero = true
+below f (suc n) = f n && below f n
+
+-- no chain of reads returns to its start: with at most 16 outputs, none is longer than 16
+abbrev pub no_circle : Table → Bool
+no_circle t = below (ends (reads t) 16) (length t.outputs)

@@ -10,8 +10,7 @@ use Rattle.tables.specs.declared.op.Pace.{Pace}
 use Rattle.tables.specs.declared.op.Pace.TheVariants.{Event, Every}
 use Rattle.tables.specs.Kinds.{Said, Table, input, life, output, trigger}
 use Rattle.tables.specs.Reading.{content, test, windows_in}
-use Rattle.tables.specs.Layers.{no_circle}
-use Rattle.tables.specs.Rules.{output_keeps, trigger_keeps}
+use Rattle.tables.specs.Rules.{no_circle, output_keeps, trigger_keeps}
 
 -- a refusal: its number, and its place
 pub record Refusal : Type 0 where
@@ -60,42 +59,36 @@ abbrev pub field : Stood → Option Framed → Result Said ℕ
 field s None = Err 1
 field s (Some f) = test (admits s f.tag) 2 (content f.tag s.windows) f.content
 
--- a field that was read, and its first byte
-pub record Placed : Type 0 where
-  pub said : Said
-  pub place : ℕ
-
-abbrev pub cons : Placed → Result (List Placed) Refusal → Result (List Placed) Refusal
+abbrev pub cons : Said → Result (List Said) Refusal → Result (List Said) Refusal
 cons f (Ok fs) = Ok (f ∷ fs)
 cons f (Err e) = Err e
 
 -- a field before all that follow; or a refusal at its place, after which nothing is looked at
-abbrev pub before : Result Said ℕ → (place : ℕ) → (Said → Result (List Placed) Refusal) → Result (List Placed) Refusal
+abbrev pub before : Result Said ℕ → (place : ℕ) → (Said → Result (List Said) Refusal) → Result (List Said) Refusal
 before (Err number) place rest = refuse number place
-before (Ok f) place rest = cons (record { said = f; place = place }) (rest f)
+before (Ok f) place rest = cons f (rest f)
 
 -- nothing where an output stood, else a refusal at the end of the bytes
-abbrev pub ended : Bool → (place : ℕ) → Result (List Placed) Refusal
+abbrev pub ended : Bool → (place : ℕ) → Result (List Said) Refusal
 ended true place = Ok []
 ended false place = refuse 2 place
 
 -- the fields from a place on, where the first `inside` bytes still belong to the field before
-abbrev pub walk : (inside place : ℕ) → Stood → List ℕ → Result (List Placed) Refusal
+abbrev pub walk : (inside place : ℕ) → Stood → List ℕ → Result (List Said) Refusal
 walk inside place s [] = ended (nat_lt 0 s.outputs) place
 walk (suc inside) place s (b ∷ bytes) = walk inside (place + 1) s bytes
 walk zero place s (b ∷ bytes) = before (field s (first (b ∷ bytes))) place (λ f. walk (2 + announced (b ∷ bytes)) (place + 1) (next s f) bytes)
 
--- a table with one field more, before its others
+-- a table from its fields
 abbrev pub with_field : Said → Table → Table
 with_field (life n) t = record { life = n; inputs = t.inputs; outputs = t.outputs; triggers = t.triggers }
 with_field (input s) t = record { life = t.life; inputs = s ∷ t.inputs; outputs = t.outputs; triggers = t.triggers }
 with_field (output o) t = record { life = t.life; inputs = t.inputs; outputs = o ∷ t.outputs; triggers = t.triggers }
 with_field (trigger g) t = record { life = t.life; inputs = t.inputs; outputs = t.outputs; triggers = g ∷ t.triggers }
 
--- a table from its fields
-abbrev pub gathered : List Placed → Table
+abbrev pub gathered : List Said → Table
 gathered [] = record { life = 0; inputs = []; outputs = []; triggers = [] }
-gathered (f ∷ fs) = with_field f.said (gathered fs)
+gathered (f ∷ fs) = with_field f (gathered fs)
 
 -- WRITING
 
@@ -174,15 +167,15 @@ abbrev pub sure : Bool → (number place : ℕ) → Result Table Refusal → Res
 sure true number place rest = rest
 sure false number place rest = refuse number place
 
--- 5 at the first field that breaks a rule; after all fields 7 at the table's length, `end`, where there is a circle
-abbrev pub judged : Table → (end me : ℕ) → List Placed → Result Table Refusal
-judged t end me [] = sure (no_circle t) 7 end (Ok t)
-judged t end me (f ∷ fs) = sure (keeps t me f.said) 5 f.place (judged t end (me + streams_in f.said) fs)
+-- 5 at the first field that breaks a rule; after all fields 7 at the table's length where there is a circle
+abbrev pub judged : Table → (me place : ℕ) → List Said → Result Table Refusal
+judged t me place [] = sure (no_circle t) 7 place (Ok t)
+judged t me place (f ∷ fs) = sure (keeps t me f) 5 place (judged t (me + streams_in f) (place + length (field_bytes f)) fs)
 
-abbrev pub whole : (end : ℕ) → Result (List Placed) Refusal → Result Table Refusal
-whole end (Ok fs) = judged (gathered fs) end 0 fs
-whole end (Err e) = Err e
+abbrev pub whole : Result (List Said) Refusal → Result Table Refusal
+whole (Ok fs) = judged (gathered fs) 0 0 fs
+whole (Err e) = Err e
 
 -- the table that bytes say, or the number and the place of the refusal
 abbrev pub read : List ℕ → Result Table Refusal
-read bytes = whole (length bytes) (walk 0 0 start bytes)
+read bytes = whole (walk 0 0 start bytes)

@@ -1,7 +1,5 @@
 use Rattle.std.proofs.Common.{refl}
-use Rattle.tables.specs.Layers.{layer_in}
 use Rattle.tables.proofs.field.worked.Goals as goal
 
 pub returns : goal.returns
-unfolding layer_in
 returns c = record { refusals = refl; meanings = record { of_life = refl; of_input = refl; of_event = refl; of_period = refl; of_trigger = refl }; tables = refl }
