@@ -1,4 +1,6 @@
 // Aggregates of values, with the laws that joining the panes of a window rests on.
+#![tactic(auto)]
+
 pub mod aggregate;
 pub mod average;
 pub mod clamp;

@@ -1,4 +1,6 @@
 // Runs cases that were made apart from this code, and prints how many agree.
+#![tactic(auto)]
+
 mod hex;
 mod logs;
 

@@ -1,4 +1,6 @@
 // Reads files that have to be short.
+#![tactic(auto)]
+
 ghost use Rattle.std.specs.Prelude.{◌≤◌, IfOk, vec_len};
 
 use std::alloc::{AllocError, Global};

@@ -1,4 +1,6 @@
 // What items are put into, and what is laid over a source.
+#![tactic(auto)]
+
 pub mod cover;
 mod rows;
 

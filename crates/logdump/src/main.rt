@@ -1,4 +1,6 @@
 // Prints what is in a log: a line for each item, one for the end, and one for the totals.
+#![tactic(auto)]
+
 mod dump;
 mod text;
 
