@@ -80,8 +80,9 @@ fn a_cover_between_queues_over_a_log(rt: HostRuntime) -> Result<(), Fail> {
         Item::Read(r) => {
             assert_eq!(rt; r.time, 5);
             assert_eq!(rt; r.mask, 1);
-            assert_eq!(rt; r.values[0], 7);
-            assert_eq!(rt; r.values[1], 0);
+            let values = r.values;
+            assert_eq!(rt; values[0], 7);
+            assert_eq!(rt; values[1], 0);
         }
         Item::Marked(_) => return Err(Fail::new("a mark")),
     }
