@@ -1,9 +1,4 @@
-pub mod Averages
-pub mod Counts
 pub mod Folds
-pub mod Largests
 pub mod Picks
 pub mod Slides
-pub mod Smallests
 pub mod Smalls
-pub mod Sums

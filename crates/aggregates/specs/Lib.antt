@@ -1,7 +1,15 @@
+pub mod AverageLaws
 pub mod Averages
+pub mod CountLaws
 pub mod Figures
+pub mod FoldLaws
 pub mod Folds
 pub mod Kinds
+pub mod LargestLaws
+pub mod Partials
+pub mod PickLaws
 pub mod Picks
+pub mod SmallestLaws
+pub mod SumLaws
 pub mod Wholes
 pub mod Worked

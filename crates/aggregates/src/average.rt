@@ -1,10 +1,4 @@
 // The average of the values, rounded toward zero, where there is a value.
-ghost use Rattle.std.specs.Prelude.{pos, if◌then◌else◌, Some, None, int_div, nat_eq};
-ghost use Rattle.aggregates.specs.Averages.{mean};
-ghost use Rattle.aggregates.specs.Wholes.{clamped};
-ghost use Rattle.aggregates.specs.contracts.count.CountAggregate.TheImpl.{ghosts as counts};
-ghost use Rattle.aggregates.specs.contracts.sum.SumAggregate.TheImpl.{ghosts as sums};
-
 use crate::aggregate::Aggregate;
 use crate::clamp::to_i32;
 use crate::count::Count;
@@ -17,15 +11,26 @@ pub struct Average {
 }
 
 impl Aggregate for Average {
-    ghost mapped = { λ v. record { sum = sums.mapped v; count = counts.mapped v } };
+    ghost use Rattle.aggregates.specs.Partials.{averages};
+    ghost use Rattle.aggregates.specs.AverageLaws.{average_joins, average_exact};
 
-    ghost neutral = { record { sum = sums.neutral; count = counts.neutral } };
+    ghost mapped = { averages.mapped };
 
-    ghost joined = { λ x y. record { sum = sums.joined x.sum y.sum; count = counts.joined x.count y.count } };
+    ghost neutral = { averages.neutral };
 
-    ghost finished = { λ x. (if nat_eq x.count.n 0 then None else Some (clamped (int_div x.sum.total (pos x.count.n)))) };
+    ghost joined = { averages.joined };
 
-    ghost whole = { mean };
+    ghost finished = { averages.finished };
+
+    ghost whole = { averages.whole };
+
+    ghost left = { average_joins.left };
+
+    ghost right = { average_joins.right };
+
+    ghost assoc = { average_joins.assoc };
+
+    ghost exact = { average_exact };
 
     fn from_value(value: i32) -> Average {
         Average {

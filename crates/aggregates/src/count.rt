@@ -1,7 +1,5 @@
 // How many values there were. The number wraps at 2 ^ 32.
-ghost use Rattle.std.specs.Prelude.{◌≡◌, ◌+◌, ◌%◌, ◌^◌, ◌<◌, length, pos, Some};
-ghost use Rattle.std.proofs.Common.{mod-lt, lit<, rules, arith};
-ghost use Rattle.aggregates.specs.Wholes.{clamped};
+ghost use Rattle.std.specs.Prelude.{◌≡◌, ◌^◌, ◌<◌};
 
 use crate::aggregate::Aggregate;
 use crate::clamp::to_i32;
@@ -23,23 +21,26 @@ impl Count {
 }
 
 impl Aggregate for Count {
-    ghost mapped = { λ _. record { n = 1; fits = lit< tt } };
+    ghost use Rattle.aggregates.specs.Partials.{counts};
+    ghost use Rattle.aggregates.specs.CountLaws.{count_joins, count_exact};
 
-    ghost neutral = { record { n = 0; fits = lit< tt } };
+    ghost mapped = { counts.mapped };
 
-    ghost joined = { λ x y. record { n = (x.n + y.n) % 2 ^ 32; fits = mod-lt (x.n + y.n) (lit< tt) } };
+    ghost neutral = { counts.neutral };
 
-    ghost finished = { λ x. Some (clamped (pos x.n)) };
+    ghost joined = { counts.joined };
 
-    ghost whole = { λ xs. Some (clamped (pos (length xs))) };
+    ghost finished = { counts.finished };
 
-    ghost left = { first_of (Prim.search rules, Prim.grind (arith, Self.row.coded.inj)) };
+    ghost whole = { counts.whole };
 
-    ghost right = { first_of (Prim.search rules, Prim.grind (arith, Self.row.coded.inj)) };
+    ghost left = { count_joins.left };
 
-    ghost assoc = { first_of (Prim.search rules, Prim.grind (arith, Self.row.coded.inj)) };
+    ghost right = { count_joins.right };
 
-    ghost exact = { first_of (Prim.search rules, Prim.grind (arith, Self.row.coded.inj)) };
+    ghost assoc = { count_joins.assoc };
+
+    ghost exact = { λ xs few _. count_exact xs few };
 
     fn from_value(_value: i32) -> Count {
         Count::of(1)

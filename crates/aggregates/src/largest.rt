@@ -1,8 +1,4 @@
 // The largest of the values, where there is one. It has 32 signed bits as each value has, so it needs no clamp.
-ghost use Rattle.std.specs.Int.{int_max};
-ghost use Rattle.std.specs.Prelude.{Some, None};
-ghost use Rattle.aggregates.specs.Picks.{either, best};
-
 use crate::aggregate::Aggregate;
 
 #[derive(Clone, Copy)]
@@ -11,15 +7,26 @@ pub struct Largest {
 }
 
 impl Aggregate for Largest {
-    ghost mapped = { λ v. record { greatest = Some v } };
+    ghost use Rattle.aggregates.specs.Partials.{largests};
+    ghost use Rattle.aggregates.specs.LargestLaws.{largest_joins, largest_exact};
 
-    ghost neutral = { record { greatest = None } };
+    ghost mapped = { largests.mapped };
 
-    ghost joined = { λ x y. record { greatest = either int_max x.greatest y.greatest } };
+    ghost neutral = { largests.neutral };
 
-    ghost finished = { λ x. x.greatest };
+    ghost joined = { largests.joined };
 
-    ghost whole = { best int_max };
+    ghost finished = { largests.finished };
+
+    ghost whole = { largests.whole };
+
+    ghost left = { largest_joins.left };
+
+    ghost right = { largest_joins.right };
+
+    ghost assoc = { largest_joins.assoc };
+
+    ghost exact = { λ xs _ _. largest_exact xs };
 
     fn from_value(value: i32) -> Largest {
         Largest {

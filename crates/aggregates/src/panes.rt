@@ -9,8 +9,8 @@ use crate::aggregate::Aggregate;
 
 // The values' partials, joined in order.
 pub fn fold_values<P: Aggregate>(values: &[i32]) -> P
-    ensures value { result ≡ fold neutral mapped joined values.now }
-    ensures exact { Few values.now → finished result ≡ whole values.now }
+    ensures value { result ≡ fold P.neutral P.mapped P.joined values.now }
+    ensures exact { Few values.now → P.finished result ≡ P.whole values.now }
 {
     let mut all = P::neutral();
     for value in values {
@@ -21,16 +21,16 @@ pub fn fold_values<P: Aggregate>(values: &[i32]) -> P
 
 // The figure of the values.
 pub fn figure<P: Aggregate>(values: &[i32]) -> Option<i32>
-    ensures value { result ≡ finished (fold neutral mapped joined values.now) }
-    ensures exact { Few values.now → result ≡ whole values.now }
+    ensures value { result ≡ P.finished (fold P.neutral P.mapped P.joined values.now) }
+    ensures exact { Few values.now → result ≡ P.whole values.now }
 {
     fold_values::<P>(values).finish()
 }
 
 // The panes, joined oldest first. Where they are the folds of pieces of a list of values, that is the list's fold.
 pub fn join_all<P: Aggregate + Copy>(panes: &[P]) -> P
-    ensures value { result ≡ join_of neutral joined panes.now }
-    ensures pieces { (pieces : List (List ℤ)) → panes.now ≡ map (fold neutral mapped joined) pieces → result ≡ fold neutral mapped joined (flatten pieces) }
+    ensures value { result ≡ join_of P.neutral P.joined panes.now }
+    ensures pieces { (pieces : List (List ℤ)) → panes.now ≡ map (fold P.neutral P.mapped P.joined) pieces → result ≡ fold P.neutral P.mapped P.joined (flatten pieces) }
 {
     let mut all = P::neutral();
     for pane in panes {
@@ -41,7 +41,7 @@ pub fn join_all<P: Aggregate + Copy>(panes: &[P]) -> P
 
 // Drops the oldest pane, and gains a neutral one after the newest.
 pub fn slide<P: Aggregate + Copy>(panes: &mut [P])
-    ensures { panes.new ≡ slid neutral panes.old }
+    ensures { panes.new ≡ slid P.neutral panes.old }
 {
     let newest = panes.len().saturating_sub(1);
     make_room(panes);
@@ -50,7 +50,7 @@ pub fn slide<P: Aggregate + Copy>(panes: &mut [P])
 
 // Joins a value to the newest pane.
 pub fn join_newest<P: Aggregate + Copy>(panes: &mut [P], value: i32)
-    ensures { panes.new ≡ at_newest neutral (λ pane. joined pane (mapped value)) panes.old }
+    ensures { panes.new ≡ at_newest P.neutral (λ pane. P.joined pane (P.mapped value)) panes.old }
 {
     let newest = panes.len().saturating_sub(1);
     let pane = pane_or(panes, newest, P::neutral());
@@ -59,9 +59,9 @@ pub fn join_newest<P: Aggregate + Copy>(panes: &mut [P], value: i32)
 
 // What holds of panes that are the folds of pieces of a list of values, whatever the aggregate.
 pub fn pane_laws<P: Aggregate>()
-    ensures splits { Splits neutral mapped joined }
-    ensures slides { Slides neutral mapped joined }
-    ensures gains { Gains neutral mapped joined }
+    ensures splits { Splits P.neutral P.mapped P.joined }
+    ensures slides { Slides P.neutral P.mapped P.joined }
+    ensures gains { Gains P.neutral P.mapped P.joined }
 {}
 
 // The pane at `i`, or `other` where there is none.

@@ -1,8 +1,4 @@
 // The smallest of the values, where there is one. It has 32 signed bits as each value has, so it needs no clamp.
-ghost use Rattle.std.specs.Int.{int_min};
-ghost use Rattle.std.specs.Prelude.{Some, None};
-ghost use Rattle.aggregates.specs.Picks.{either, best};
-
 use crate::aggregate::Aggregate;
 
 #[derive(Clone, Copy)]
@@ -11,15 +7,26 @@ pub struct Smallest {
 }
 
 impl Aggregate for Smallest {
-    ghost mapped = { λ v. record { least = Some v } };
+    ghost use Rattle.aggregates.specs.Partials.{smallests};
+    ghost use Rattle.aggregates.specs.SmallestLaws.{smallest_joins, smallest_exact};
 
-    ghost neutral = { record { least = None } };
+    ghost mapped = { smallests.mapped };
 
-    ghost joined = { λ x y. record { least = either int_min x.least y.least } };
+    ghost neutral = { smallests.neutral };
 
-    ghost finished = { λ x. x.least };
+    ghost joined = { smallests.joined };
 
-    ghost whole = { best int_min };
+    ghost finished = { smallests.finished };
+
+    ghost whole = { smallests.whole };
+
+    ghost left = { smallest_joins.left };
+
+    ghost right = { smallest_joins.right };
+
+    ghost assoc = { smallest_joins.assoc };
+
+    ghost exact = { λ xs _ _. smallest_exact xs };
 
     fn from_value(value: i32) -> Smallest {
         Smallest { least: Some(value) }

@@ -1,10 +1,7 @@
 // The sum of the values. It wraps at 64 signed bits.
-ghost use Rattle.std.specs.Prelude.{◌≡◌, ◌^◌, ◌<◌, pos, ◌+ℤ◌, Some};
-ghost use Rattle.std.proofs.Common.{lit<, rules, arith};
+ghost use Rattle.std.specs.Prelude.{◌≡◌, ◌^◌, ◌<◌, ◌+ℤ◌};
 ghost use Rattle.std.specs.Int.Signed.{mag};
 ghost use Rattle.std.specs.Int.{int_wrap, w64};
-ghost use Rattle.std.proofs.lemmas.Int.{SFits-int_wrap};
-ghost use Rattle.aggregates.specs.Wholes.{clamped, sumZ};
 
 use crate::aggregate::Aggregate;
 use crate::clamp::to_i32;
@@ -40,23 +37,26 @@ fn wrapping_sum(a: i64, b: i64) -> i64
 }
 
 impl Aggregate for Sum {
-    ghost mapped = { λ v. record { total = int_wrap w64 v; fits = (SFits-int_wrap w64 v).sfits } };
+    ghost use Rattle.aggregates.specs.Partials.{sums};
+    ghost use Rattle.aggregates.specs.SumLaws.{sum_joins, sum_exact};
 
-    ghost neutral = { record { total = pos 0; fits = lit< tt } };
+    ghost mapped = { sums.mapped };
 
-    ghost joined = { λ x y. record { total = int_wrap w64 (x.total +ℤ y.total); fits = (SFits-int_wrap w64 (x.total +ℤ y.total)).sfits } };
+    ghost neutral = { sums.neutral };
 
-    ghost finished = { λ x. Some (clamped x.total) };
+    ghost joined = { sums.joined };
 
-    ghost whole = { λ xs. Some (clamped (sumZ xs)) };
+    ghost finished = { sums.finished };
 
-    ghost left = { first_of (Prim.search rules, Prim.grind (arith, Self.row.coded.inj)) };
+    ghost whole = { sums.whole };
 
-    ghost right = { first_of (Prim.search rules, Prim.grind (arith, Self.row.coded.inj)) };
+    ghost left = { sum_joins.left };
 
-    ghost assoc = { first_of (Prim.search rules, Prim.grind (arith, Self.row.coded.inj)) };
+    ghost right = { sum_joins.right };
 
-    ghost exact = { first_of (Prim.search rules, Prim.grind (arith, Self.row.coded.inj)) };
+    ghost assoc = { sum_joins.assoc };
+
+    ghost exact = { sum_exact };
 
     fn from_value(value: i32) -> Sum {
         Sum::of(widened(value))

@@ -1,4 +1,4 @@
-use Rattle.aggregates.proofs.Counts.{count_same}
+use Rattle.aggregates.specs.CountLaws.{count_same}
 use Rattle.aggregates.proofs.count.Count.of.Goals as goal
 
 pub returns : goal.returns

@@ -1,5 +1,5 @@
 use Rattle.std.proofs.Common.{rules}
-use Rattle.aggregates.proofs.Sums.{sum_same}
+use Rattle.aggregates.specs.SumLaws.{sum_same}
 use Rattle.aggregates.proofs.sum.Sum.of.Goals as goal
 
 pub returns : goal.returns

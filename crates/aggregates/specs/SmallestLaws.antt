@@ -3,10 +3,10 @@ use Rattle.std.proofs.Common.{◌≡◌, List, ℤ, Some, None, refl, ◌∙◌}
 use Rattle.std.specs.Int.{int_min}
 use Rattle.aggregates.specs.Figures.{figure_of}
 use Rattle.aggregates.specs.Folds.{Joins}
+use Rattle.aggregates.specs.Partials.{smallests}
 use Rattle.aggregates.specs.Picks.{either}
-use Rattle.aggregates.specs.contracts.smallest.SmallestAggregate.TheImpl.{ghosts as smallests}
-use Rattle.aggregates.proofs.Folds.{joins_wrapped, fold_map}
-use Rattle.aggregates.proofs.Picks.{either_joins, best_fold, min_assoc}
+use Rattle.aggregates.specs.FoldLaws.{joins_wrapped, fold_map}
+use Rattle.aggregates.specs.PickLaws.{either_joins, best_fold, min_assoc}
 
 pub smallest_joins : Joins smallests.neutral smallests.joined
 smallest_joins = joins_wrapped (λ o. record { least = o }) (λ x. x.least) (λ x. refl) (λ o. refl) (either_joins int_min min_assoc)

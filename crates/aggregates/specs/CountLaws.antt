@@ -5,9 +5,9 @@ use native.Mathlib.Nat.{mod-add-mod, add-mod-mod}
 use native.Mathlib.Bridge.{le_prop}
 use Rattle.aggregates.specs.Figures.{partial_of, figure_of}
 use Rattle.aggregates.specs.Folds.{Joins}
+use Rattle.aggregates.specs.Partials.{counts}
 use Rattle.aggregates.specs.Wholes.{clamped, Few}
 use Rattle.aggregates.specs.declared.count.Count.{Count}
-use Rattle.aggregates.specs.contracts.count.CountAggregate.TheImpl.{ghosts as counts}
 
 -- the number decides, since a ghost field has one proof at most
 pub count_same : (x y : Count) → x.n ≡ y.n → x ≡ y

@@ -9,9 +9,9 @@ use Rattle.std.proofs.lemmas.Int.{int_wrap_fits, int_wrap-add_left, int_wrap-add
 use Rattle.std.proofs.lemmas.Bool.{cond_both}
 use Rattle.aggregates.specs.Figures.{partial_of, figure_of}
 use Rattle.aggregates.specs.Folds.{Joins}
+use Rattle.aggregates.specs.Partials.{sums}
 use Rattle.aggregates.specs.Wholes.{clamped, Few, Small, sumZ}
 use Rattle.aggregates.specs.declared.sum.Sum.{Sum}
-use Rattle.aggregates.specs.contracts.sum.SumAggregate.TheImpl.{ghosts as sums}
 
 -- the total decides, since a ghost field has one proof at most
 pub sum_same : (x y : Sum) → x.total ≡ y.total → x ≡ y

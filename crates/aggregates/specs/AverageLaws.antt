@@ -5,12 +5,10 @@ use Rattle.std.proofs.lemmas.Bool.{cond-false, ne_eqb}
 use Rattle.aggregates.specs.Figures.{figure_of}
 use Rattle.aggregates.specs.Folds.{Joins}
 use Rattle.aggregates.specs.Wholes.{clamped, Few, Small}
-use Rattle.aggregates.specs.contracts.average.AverageAggregate.TheImpl.{ghosts as averages}
-use Rattle.aggregates.specs.contracts.count.CountAggregate.TheImpl.{ghosts as counts}
-use Rattle.aggregates.specs.contracts.sum.SumAggregate.TheImpl.{ghosts as sums}
-use Rattle.aggregates.proofs.Counts.{count_joins, count_fits}
-use Rattle.aggregates.proofs.Folds.{fold_map}
-use Rattle.aggregates.proofs.Sums.{sum_joins, sum_fits}
+use Rattle.aggregates.specs.Partials.{averages, counts, sums}
+use Rattle.aggregates.specs.CountLaws.{count_joins, count_fits}
+use Rattle.aggregates.specs.FoldLaws.{fold_map}
+use Rattle.aggregates.specs.SumLaws.{sum_joins, sum_fits}
 
 pub average_joins : Joins averages.neutral averages.joined
 average_joins = record {
