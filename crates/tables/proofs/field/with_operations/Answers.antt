@@ -6,15 +6,15 @@ use Rattle.tables.specs.Programs.{listed}
 use Rattle.tables.proofs.Contents.{ops_fit, ops_stop, ops_unfit}
 use Rattle.tables.proofs.field.with_operations.Goals as goal
 
-pub returns-in-err-program : goal.returns-in-err-program
-returns-in-err-program c =
-    let p = err_from_is_err_and c.from-residual.result c.from-residual.ensures.1 in
-    ap said p.1 ∙ ap (λ f. Err (number f)) p.2 ∙ ops_stop c.args.pace c.args.windows c.args.name.now c.args.operations.now (search rules) _ c.in-err-program.ensures
+pub returns-in_err-program : goal.returns-in_err-program
+returns-in_err-program c =
+    let p = err_from_is_err_and c.from_residual.result c.from_residual.ensures.1 in
+    ap said p.1 ∙ ap (λ f. Err (number f)) p.2 ∙ ops_stop c.args.pace c.args.windows c.args.name.now c.args.operations.now (search rules) _ c.in_err-program.ensures
 
 pub returns-then-not-fits : goal.returns-then-not-fits
 returns-then-not-fits c =
-    ops_unfit c.args.pace c.args.windows c.args.name.now c.args.operations.now (search rules) (listed c.in-ok-program.program) c.in-ok-program.ensures c.if-not-fits.ensures
+    ops_unfit c.args.pace c.args.windows c.args.name.now c.args.operations.now (search rules) (listed c.in_ok-program.program) c.in_ok-program.ensures c.if-not-fits.ensures
 
 pub returns : goal.returns
 returns c =
-    ops_fit c.args.pace c.args.windows c.args.name.now c.args.operations.now (search rules) (listed c.in-ok-program.program) c.in-ok-program.ensures c.if-not-fits.ensures
+    ops_fit c.args.pace c.args.windows c.args.name.now c.args.operations.now (search rules) (listed c.in_ok-program.program) c.in_ok-program.ensures c.if-not-fits.ensures
