@@ -1,9 +1,13 @@
+pub mod Asking
 pub mod Fields
 pub mod Flaws
 pub mod Kinds
+pub mod Layers
+pub mod Plans
 pub mod Programs
 pub mod Reading
 pub mod Rules
+pub mod Sound
 pub mod Tables
 pub mod Worked
 pub mod WorkedTables
