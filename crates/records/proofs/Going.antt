@@ -13,7 +13,7 @@ use Rattle.records.specs.Entries.{Frame}
 use Rattle.records.specs.Memory.{memory, recalled_entry}
 use Rattle.records.specs.Reference.{entry, reference}
 use Rattle.records.specs.Schedule.{deadline_frame, last_R, letter_of, reading_frame}
-use Rattle.records.specs.Standing.{Goes_on, Standings, Stands}
+use Rattle.records.specs.Standing.{GoesOn, Standings, Stands}
 use Rattle.records.proofs.Nexts.{comings}
 use Rattle.records.proofs.Remembering.{recalls_all}
 
@@ -24,7 +24,7 @@ module _ (t : Table) (sure : sound t ≡ true) where
   -- an entry that comes next is recalled
   goes_on : (given pending : List Item) (before : List Entry) (f : Frame) (d r : ℕ) → Reached (next t d) r
       → ((later : List Item) → reference t (given ++ later) ≡ reverse before ++ (entry t before f ∷ coming t (entry t before f ∷ before) d r (pending ++ later)))
-      → Goes_on t given pending before f d r
+      → GoesOn t given pending before f d r
   goes_on given pending before f d r reached here = record {
     stands = record { whole = λ later. here later ∙ sym (one_more before (entry t before f) _); reached = reached };
     recalled = λ few.

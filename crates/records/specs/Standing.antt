@@ -22,7 +22,7 @@ pub record Stands (t : Table) (given pending : List Item) (before : List Entry) 
   pub reached : Reached (next t d) r
 
 -- the entry of a frame is next: the record stands so with it, and it is what the memory of those before gives
-pub record Goes_on (t : Table) (given pending : List Item) (before : List Entry) (f : Frame) (d r : ℕ) : Type 0 where
+pub record GoesOn (t : Table) (given pending : List Item) (before : List Entry) (f : Frame) (d r : ℕ) : Type 0 where
   pub stands : Stands t given pending (entry t before f ∷ before) d r
   pub recalled : length before ≤ 2000000000 → entry t before f ≡ recalled_entry (memory t before) t f
 
@@ -34,16 +34,16 @@ pub record Standings (t : Table) : Type 0 where
   pub more : (given pending : List Item) (before : List Entry) (d r : ℕ) (later : List Item) → Stands t given pending before d r → Stands t (given ++ later) (pending ++ later) before d r
   -- the next deadline goes before an item of a later time, which stays pending
   pub deadline : (given pending : List Item) (before : List Entry) (d r n : ℕ) (x : Item) → Stands t given (x ∷ pending) before d r → next t d ≡ Some n → n < time_of x
-      → Goes_on t given (x ∷ pending) before (deadline_frame t n) n r
+      → GoesOn t given (x ∷ pending) before (deadline_frame t n) n r
   -- a mark is done where no deadline stands before it
   pub mark : (given pending : List Item) (before : List Entry) (d r : ℕ) (m : Mark) → Stands t given (Marked m ∷ pending) before d r → Reached (next t d) m.time
       → Stands t given pending before d r
   -- and a reading adds its entry
   pub reading : (given pending : List Item) (before : List Entry) (d r : ℕ) (x : Reading) → Stands t given (Read x ∷ pending) before d r → Reached (next t d) x.time
-      → Goes_on t given pending before (reading_frame t (letter_of t d r x) x) d (last_R (letter_of t d r x) r x.time)
+      → GoesOn t given pending before (reading_frame t (letter_of t d r x) x) d (last_R (letter_of t d r x) r x.time)
   -- a late one adds its own at once
   pub late : (given pending : List Item) (before : List Entry) (d r : ℕ) (x : Reading) → Stands t given (Read x ∷ pending) before d r → is_late d r x.time ≡ true
-      → Goes_on t given pending before (reading_frame t L x) d r
+      → GoesOn t given pending before (reading_frame t L x) d r
   -- a reading that is not late is not made so by the deadlines before it
   pub in_time : (d r n time : ℕ) → is_late d r time ≡ false → n < time → is_late n r time ≡ false
   -- the entries made are the first ones of the record, and all of it where none is pending
