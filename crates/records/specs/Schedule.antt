@@ -1,4 +1,4 @@
--- The schedule: which frames a list of items makes, from its times and masks alone.
+-- The schedule: which frames a list of items makes. All but the inputs of a frame follows from times and masks.
 -- Streams count from 0, inputs first, then outputs.
 use Rattle.std.specs.Prelude.{ℕ, zero, suc, ◌+◌, ◌-◌, Bool, true, false, cond, ◌&&◌, ◌||◌, List, [], ◌∷◌, ◌++◌, map, length, replicate, pos, ◌==◌, nat_le, nat_lt, slice_index_or}
 use Rattle.std.specs.List.{range_with_len}
