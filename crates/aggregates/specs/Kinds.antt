@@ -1,11 +1,7 @@
 -- The kinds of aggregate: their numbers, and their figures of a list of values.
 use Rattle.std.specs.Prelude.{ℕ, List, ℤ, Option}
 use Rattle.aggregates.specs.Figures.{figure_of}
-use Rattle.aggregates.specs.contracts.average.AverageAggregate.TheImpl.{ghosts as averages}
-use Rattle.aggregates.specs.contracts.count.CountAggregate.TheImpl.{ghosts as counts}
-use Rattle.aggregates.specs.contracts.largest.LargestAggregate.TheImpl.{ghosts as largests}
-use Rattle.aggregates.specs.contracts.smallest.SmallestAggregate.TheImpl.{ghosts as smallests}
-use Rattle.aggregates.specs.contracts.sum.SumAggregate.TheImpl.{ghosts as sums}
+use Rattle.aggregates.specs.Partials.{averages, counts, largests, smallests, sums}
 use Rattle.aggregates.specs.declared.kind.Kind.{Kind}
 use Rattle.aggregates.specs.declared.kind.Kind.TheVariants.{Count, Sum, Smallest, Largest, Average}
 

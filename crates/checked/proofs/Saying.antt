@@ -5,7 +5,7 @@ use Rattle.tables.specs.declared.op.Program.{Program}
 use Rattle.tables.specs.Rules.{nothing, output_at, streams}
 use Rattle.checked.specs.declared.element.Output.{Output}
 use Rattle.checked.specs.declared.parts.Parts.{Parts}
-use Rattle.checked.specs.Views.{name_of, output_of, said, trigger_of}
+use Rattle.checked.specs.Views.{name_of, output_of, said}
 use Rattle.checked.proofs.Leaving.{left_more}
 use Rattle.checked.proofs.Padding.{count_said}
 
@@ -37,9 +37,6 @@ module _ (p : Parts) where
 
   pub outputs_said : length (said p).outputs ≡ p.output_count
   outputs_said = count_said output_of _ p.outputs few_outputs
-
-  pub triggers_said : length (said p).triggers ≡ p.trigger_count
-  triggers_said = count_said trigger_of _ p.triggers few_triggers
 
   pub streams_said : streams (said p) ≡ p.input_count + p.output_count
   streams_said = λ i. inputs_said i + outputs_said i

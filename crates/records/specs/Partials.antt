@@ -1,11 +1,7 @@
 -- The panes of a window as partials: what an aggregate keeps of the values in each.
 use Rattle.std.specs.Prelude.{◌≡◌, cond, List, [], ◌∷◌, map, replicate}
 use mathlib.Core.List.{flatten}
-use Rattle.aggregates.specs.contracts.average.AverageAggregate.TheImpl.{ghosts as averages}
-use Rattle.aggregates.specs.contracts.count.CountAggregate.TheImpl.{ghosts as counts}
-use Rattle.aggregates.specs.contracts.largest.LargestAggregate.TheImpl.{ghosts as largests}
-use Rattle.aggregates.specs.contracts.smallest.SmallestAggregate.TheImpl.{ghosts as smallests}
-use Rattle.aggregates.specs.contracts.sum.SumAggregate.TheImpl.{ghosts as sums}
+use Rattle.aggregates.specs.Partials.{averages, counts, largests, smallests, sums}
 use Rattle.aggregates.specs.declared.aggregate.Aggregate.{Ghosts}
 use Rattle.aggregates.specs.Figures.{figure_of, partial_of}
 use Rattle.aggregates.specs.Folds.{at_newest, join_of, slid}
