@@ -2,6 +2,4 @@ pub mod Circles
 pub mod Contents
 pub mod Operations
 pub mod Readers
-pub mod SamePrograms
-pub mod Stacks
 pub mod Texts

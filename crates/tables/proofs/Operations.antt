@@ -1,12 +1,12 @@
 -- The operations of an output: one, and all of them.
-use Rattle.std.proofs.Common.{◌≡◌, ℕ, zero, suc, ◌+◌, ◌-◌, ◌<◌, ◌≤◌, eqb, List, [], ◌∷◌, ◌++◌, length, take, drop, set, replicate, Some, None, Ok, Err, Option, Result, sym, refl, ap, ◌∙◌, subst, arith}
-use Rattle.std.proofs.lemmas.List.{append_assoc, append-nil, drop_all, drop-drop, drop-replicate, drop-set-lt, length-drop, length-set, take_more_set, take_rest}
+use Rattle.std.proofs.Common.{◌≡◌, ℕ, zero, suc, ◌+◌, ◌-◌, ◌<◌, ◌≤◌, eqb, List, [], ◌∷◌, ◌++◌, length, drop, Some, None, Ok, Err, Option, Result, sym, refl, ap, ◌∙◌, subst, arith}
+use Rattle.std.proofs.lemmas.List.{append_assoc, append-nil, length_push, take_all}
 use Rattle.std.proofs.lemmas.Bool.{cond-false, ne_eqb}
 use Rattle.aggregates.specs.declared.kind.Kind.{Kind}
 use Rattle.aggregates.specs.declared.kind.Kind.TheVariants.{Count, Sum, Smallest, Largest, Average}
 use Rattle.aggregates.specs.Kinds as kinds
 use Rattle.tables.specs.declared.op.Op.{Op}
-use Rattle.tables.specs.declared.op.Op.TheVariants.{Add}
+use Rattle.fixed.specs.Pushing.{pushed}
 use Rattle.tables.specs.Programs.{all_ops, first_op, sized}
 use Rattle.tables.specs.Reading.{found, kind_of, ops, windows_in}
 use Rattle.tables.proofs.Readers.{Alike, Front, alike_at, never, operands_alike, operands_fewer}
@@ -87,53 +87,45 @@ ops_full zero w k [] none some = absurd (omega arith)
 ops_full zero w k (c ∷ bs) none some = refl
 ops_full (suc m) w k xs none some = absurd (omega arith)
 
--- n operations are in their places, and those from a byte on are still to be read
-pub record Working (b : List ℕ) (before : ℕ) (arr : List Op) (n at w : ℕ) : Type 0 where
-  pub within : at ≤ length b
-  pub few : n ≤ 16
-  pub long : length arr ≡ 16
-  pub filled : drop n arr ≡ replicate (16 - n) Add
-  pub same : ops (16 - n) w (λ os. Ok (take n arr ++ os)) (drop at b) ≡ all_ops before b
+-- some operations are read, and the others are still to be read from the bytes that are left
+pub record Working (bytes : List ℕ) (before : ℕ) (done : List Op) (rest : List ℕ) (w : ℕ) : Type 0 where
+  pub few : length done ≤ 16
+  pub same : ops (16 - length done) w (λ os. Ok (done ++ os)) rest ≡ all_ops before bytes
 
-pub work_start : (b : List ℕ) (before : ℕ) → Working b before (replicate 16 Add) 0 0 before
-work_start b before = record { within = omega arith; few = omega arith; long = refl; filled = refl; same = refl }
+pub work_start : (bytes : List ℕ) (before : ℕ) → Working bytes before [] bytes before
+work_start bytes before = record { few = omega arith; same = refl }
 
-module _ (b : List ℕ) (before : ℕ) (arr : List Op) (n at w : ℕ) (k : Working b before arr n at w) where
-  some_left : at < length b → 0 < length (drop at b)
-  some_left more = let l = length-drop at b in omega arith
+module _ (bytes : List ℕ) (before : ℕ) (done : List Op) (rest : List ℕ) (w : ℕ) (k : Working bytes before done rest w) where
+  pub work_full : 0 < length rest → 16 ≤ length done → Err 3 ≡ all_ops before bytes
+  work_full some full = ops_full (16 - length done) w (λ os. Ok (done ++ os)) rest (omega arith) some ∙ k.same
 
-  pub work_full : at < length b → 16 ≤ n → Err 3 ≡ all_ops before b
-  work_full more full = ops_full (16 - n) w (λ os. Ok (take n arr ++ os)) (drop at b) (omega arith) (some_left more) ∙ k.same
-
-  pub work_end : length b ≤ at → Ok (take n arr) ≡ all_ops before b
-  work_end end = ap Ok (sym (append-nil (take n arr))) ∙ sym (ap (ops (16 - n) w (λ os. Ok (take n arr ++ os))) (drop_all at b end)) ∙ k.same
+  pub work_end : length rest ≡ 0 → Ok done ≡ all_ops before bytes
+  work_end none = ap Ok (sym (append-nil done)) ∙ sym (ap (ops (16 - length done) w (λ os. Ok (done ++ os))) (no_bytes rest none)) ∙ k.same
+    where
+      no_bytes : (bs : List ℕ) → length bs ≡ 0 → bs ≡ []
+      no_bytes [] none = refl
+      no_bytes (b ∷ bs) none = absurd (omega arith)
 
   abbrev AtHand : Op × ℕ → Result (List Op) ℕ → Type 0
-  AtHand = Reached w (next_ops (16 - n - 1) w (λ os. Ok (take n arr ++ os))) (drop at b)
+  AtHand = Reached w (next_ops (16 - length done - 1) w (λ os. Ok (done ++ os))) rest
 
-  at_hand : (r : Result (Op × ℕ) ℕ) → at < length b → n < 16 → r ≡ first_op w (take (length b - at) (drop at b)) → Alike AtHand r (all_ops before b)
-  at_hand r more room is =
-      subst (λ x. Alike AtHand x (all_ops before b)) (sym (is ∙ ap (first_op w) (take_rest b at)))
-      (subst (λ y. Alike AtHand (first_op w (drop at b)) y) k.same (ops_alike (16 - n) w (λ os. Ok (take n arr ++ os)) (drop at b) (omega arith) (some_left more)))
+  at_hand : (r : Result (Op × ℕ) ℕ) → 0 < length rest → length done < 16 → r ≡ first_op w rest → Alike AtHand r (all_ops before bytes)
+  at_hand r some room is =
+      subst (λ x. Alike AtHand x (all_ops before bytes)) (sym is)
+      (subst (λ y. Alike AtHand (first_op w rest) y) k.same (ops_alike (16 - length done) w (λ os. Ok (done ++ os)) rest (omega arith) some))
 
-  pub work_stops : (e : ℕ) → at < length b → n < 16 → Err e ≡ first_op w (take (length b - at) (drop at b)) → Err e ≡ all_ops before b
-  work_stops e more room is = sym (at_hand (Err e) more room is)
+  pub work_stops : (e : ℕ) → 0 < length rest → length done < 16 → Err e ≡ first_op w rest → Err e ≡ all_ops before bytes
+  work_stops e some room is = sym (at_hand (Err e) some room is)
 
-  module _ (o : Op) (size : ℕ) (more : at < length b) (room : n < 16) (is : Ok (o, size) ≡ first_op w (take (length b - at) (drop at b))) where
-    pub work_reach : AtHand (o, size) (all_ops before b)
-    work_reach = at_hand (Ok (o, size)) more room is
+  module _ (o : Op) (size : ℕ) (some : 0 < length rest) (room : length done < 16) (is : Ok (o, size) ≡ first_op w rest) where
+    pub work_reach : AtHand (o, size) (all_ops before bytes)
+    work_reach = at_hand (Ok (o, size)) some room is
 
-    pub work_more : (v : ℕ) → v ≡ w + windows_in o → Working b before (set arr n o) (n + 1) (at + size) v
-    work_more v windows =
-        let inside = work_reach.inside in
-        let left = length-drop at b in
-        let long = k.long in
-        let m : 16 - (n + 1) ≡ 16 - n - 1 = omega arith in
-        let pushed : (os : List Op) → take (n + 1) (set arr n o) ++ os ≡ take n arr ++ (o ∷ os) = (λ os. ap (λ l. l ++ os) (take_more_set arr n o (omega arith)) ∙ append_assoc (take n arr) (o ∷ []) os) in
+    pub work_more : (now : List Op) (left : List ℕ) (v : ℕ) → now ≡ pushed 16 o done → left ≡ drop size rest → v ≡ w + windows_in o → Working bytes before now left v
+    work_more now left v push cut windows =
+        let more : now ≡ done ++ (o ∷ []) = push ∙ take_all 16 (done ++ (o ∷ [])) (omega (arith, length_push done o)) in
+        let m : 16 - length now ≡ 16 - length done - 1 = omega (arith, ap length more, length_push done o) in
         record {
-          within = omega arith;
-          few = omega arith;
-          long = length-set arr n o ∙ long;
-          filled = drop-set-lt (n + 1) arr n o (omega arith) ∙ sym (drop-drop 1 n arr) ∙ ap (drop 1) k.filled ∙ drop-replicate 1 (16 - n) Add ∙ ap (λ x. replicate x Add) (sym m);
-          same = (λ i. ops (m i) (windows i) (λ os. Ok (pushed os i)) (sym (drop-drop size at b) i)) ∙ sym work_reach.on;
+          few = omega (arith, ap length more, length_push done o);
+          same = (λ i. ops (m i) (windows i) (λ os. Ok ((ap (λ l. l ++ os) more ∙ append_assoc done (o ∷ []) os) i)) (cut i)) ∙ sym work_reach.on;
         }

@@ -5,21 +5,21 @@ ghost use Rattle.tables.specs.Flaws as flaws;
 #[derive(Clone, Copy, PartialEq, Eq, Debug)]
 pub enum Flaw {
     // A field is cut: fewer bytes are left than the header or the length asks for.
-    Cut,
+    Cut = 1,
     // The tag is unknown, out of order or once too many, or the bytes end before an output stood.
-    Order,
+    Order = 2,
     // A field ends too early or too late, or has a 17th operation.
-    Extent,
+    Extent = 3,
     // A number or a byte is out of range, or a ninth window stands.
-    Range,
+    Range = 4,
     // A reading rule is broken.
-    Reading,
+    Reading = 5,
     // The stack rule is broken.
-    Stack,
+    Stack = 6,
     // A chain of reads returns to its start.
-    Circle,
+    Circle = 7,
     // The buffer is too short to write into.
-    Short,
+    Short = 8,
 }
 
 impl Flaw {
@@ -27,16 +27,14 @@ impl Flaw {
     pub fn number(self) -> u8
         ensures { result ≡ flaws.number self }
     {
-        match self {
-            Flaw::Cut => 1,
-            Flaw::Order => 2,
-            Flaw::Extent => 3,
-            Flaw::Range => 4,
-            Flaw::Reading => 5,
-            Flaw::Stack => 6,
-            Flaw::Circle => 7,
-            Flaw::Short => 8,
-        }
+        self as u8
+    }
+
+    // The refusal of what has the flaw at a place.
+    pub fn at(self, place: usize) -> Refused
+        ensures { result ≡ record { flaw = self; place = place } }
+    {
+        Refused { flaw: self, place }
     }
 }
 

@@ -1,8 +1,8 @@
 // What an output is worked out by.
-ghost use Rattle.std.specs.Prelude.{◌≡◌, ◌-◌, ◌≤◌, length, drop, replicate};
 ghost use Rattle.tables.specs.declared.op.Op.TheVariants.{Add};
 
 use aggregates::kind::Kind;
+use fixed::{Blank, FixedVec};
 
 // An operation. The first five push a value on a stack; the others replace the topmost values by one.
 #[derive(Clone, Copy)]
@@ -39,14 +39,18 @@ pub enum Op {
     Choose,
 }
 
-// At most 16 operations; past its count a program holds additions, so that two that say the same are equal.
+impl Blank for Op {
+    ghost blank = { Add };
+
+    fn blank() -> Op {
+        Op::Add
+    }
+}
+
+// At most 16 operations.
 #[derive(Clone, Copy)]
 pub struct Program {
-    pub ops: [Op; 16],
-    pub count: usize,
-    ghost few: { count ≤ 16 },
-    ghost long: { length ops ≡ 16 },
-    ghost filled: { drop count ops ≡ replicate (16 - count) Add },
+    pub ops: FixedVec<Op, 16>,
 }
 
 // When an output is worked out: with readings, or at each multiple of a period.

@@ -8,6 +8,7 @@ use crate::flaw::Flaw;
 use crate::op::{Op, Program};
 use crate::{signed, word};
 use aggregates::kind::Kind;
+use fixed::FixedVec;
 
 // The aggregate that has the number.
 fn kind(n: u8) -> Option<Kind>
@@ -128,51 +129,26 @@ fn first(bytes: &[u8], windows: u8) -> Result<(Op, usize), Flaw>
     }
 }
 
-// The windows with those of one operation more.
-fn opened(op: Op, windows: u8) -> u8
-    requires { reading.windows_in op ≤ 8 - windows }
-    ensures { result ≡ windows + reading.windows_in op }
-{
-    match op {
-        Op::Window {
-            stream: _,
-            kind: _,
-            duration: _,
-            default: _,
-        } => windows + 1,
-        _ => windows,
-    }
-}
-
-// All operations to the field's end.
-fn operations(bytes: &[u8], before: u8) -> Result<Program, Flaw>
-    ensures { programs.told result ≡ programs.all_ops before bytes.now }
-{
-    let mut ops = [Op::Add; 16];
-    let mut count = 0;
-    let mut at = 0;
-    let mut windows = before;
-    while at < bytes.len() {
-        if count >= 16 {
-            return Err(Flaw::Extent);
+impl Op {
+    // How many windows the operation is.
+    pub fn windows(self) -> u8
+        ensures { result ≡ reading.windows_in self }
+    {
+        match self {
+            Op::Window { .. } => 1,
+            _ => 0,
         }
-        let (op, size) = first(&bytes[at..], windows)?;
-        ops[count] = op;
-        count += 1;
-        windows = opened(op, windows);
-        at += size;
     }
-    Ok(Program { ops, count })
-}
 
-// How many values an operation takes from the stack.
-fn takes(op: Op) -> u8
-    ensures { result ≡ reading.takes op }
-{
-    match op {
-        Op::Add | Op::Subtract | Op::Multiply | Op::Less | Op::Equal => 2,
-        Op::Choose => 3,
-        _ => 0,
+    // How many values the operation takes from the stack.
+    fn takes(self) -> u8
+        ensures { result ≡ reading.takes self }
+    {
+        match self {
+            Op::Add | Op::Subtract | Op::Multiply | Op::Less | Op::Equal => 2,
+            Op::Choose => 3,
+            _ => 0,
+        }
     }
 }
 
@@ -187,32 +163,38 @@ fn height_after(height: u8, taken: u8) -> Option<u8>
     Some(height - taken + 1)
 }
 
-fn stacked(program: &Program) -> bool
-    ensures { result ≡ reading.fits 0 (programs.listed program.now) }
-{
-    let mut height = 0;
-    for i in 0..program.count {
-        let Some(next) = height_after(height, takes(program.ops[i])) else {
-            return false;
-        };
-        height = next;
-    }
-    height == 1
-}
-
 impl Program {
     // The operations that some bytes say to their end, where so many windows stand before them in the table; from
     // eight on no other window may stand.
     pub fn read(bytes: &[u8], windows: u8) -> Result<Program, Flaw>
         ensures { programs.told result ≡ programs.all_ops windows bytes.now }
     {
-        operations(bytes, windows)
+        let mut rest = bytes;
+        let mut windows = windows;
+        let mut ops = FixedVec::new();
+        while !rest.is_empty() {
+            if ops.len() == 16 {
+                return Err(Flaw::Extent);
+            }
+            let (op, size) = first(rest, windows)?;
+            windows += op.windows();
+            let _ = ops.push(op);
+            rest = &rest[size..];
+        }
+        Ok(Program { ops })
     }
 
     // Whether the stack never lacks a value, never holds more than eight, and ends with one.
     pub fn fits(&self) -> bool
         ensures { result ≡ reading.fits 0 (programs.listed self.now) }
     {
-        stacked(self)
+        let mut height = 0;
+        for op in &self.ops {
+            let Some(next) = height_after(height, op.takes()) else {
+                return false;
+            };
+            height = next;
+        }
+        height == 1
     }
 }
