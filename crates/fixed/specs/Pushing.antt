@@ -1,10 +1,14 @@
 -- A value more, where there is a place for it.
-use Rattle.std.specs.Prelude.{ℕ, List, [], ◌∷◌, ◌++◌, length, take, nat_lt, Result, Ok, Err, cond}
+use Rattle.std.specs.Prelude.{ℕ, List, [], ◌∷◌, ◌++◌, length, take, drop, nat_lt, Result, Ok, Err, cond}
 use Rattle.fixed.specs.declared.vec.Full.{Full}
 
 -- the values after a push
 abbrev pub pushed : {A : Type 0} → ℕ → A → List A → List A
 pushed n x xs = take n (xs ++ x ∷ [])
+
+-- the values with one more at a place
+abbrev pub inserted : {A : Type 0} → (n at : ℕ) → A → List A → List A
+inserted n at x xs = cond (nat_lt (length xs) n) (take at xs ++ x ∷ drop at xs) xs
 
 -- what a push answers
 abbrev pub push_answer : {A : Type 0} → ℕ → List A → Result (Unit {0}) Full

@@ -15,3 +15,19 @@ impl Blank for u8 {
         u8::MIN
     }
 }
+
+impl Blank for u32 {
+    ghost blank = { 0 };
+
+    fn blank() -> u32 {
+        u32::MIN
+    }
+}
+
+impl Blank for usize {
+    ghost blank = { 0 };
+
+    fn blank() -> usize {
+        usize::MIN
+    }
+}

@@ -1,8 +1,8 @@
 // A vector of at most `N` values, kept without a heap. Clauses see the list of its values.
-ghost use Rattle.std.specs.Prelude.{◌≡◌, ◌≤◌, ◌<◌, ◌^◌, [], length, take, drop, slice_get, codes, Some, ⊤};
+ghost use Rattle.std.specs.Prelude.{◌≡◌, ◌≤◌, [], length, take, drop, slice_get, codes, Some, ⊤};
 ghost use Rattle.std.specs.Slice.Iter.{iter_rest};
 ghost use Rattle.std.specs.Iterator.Adapters.{IterYieldsInOrder};
-ghost use Rattle.fixed.specs.Pushing.{pushed, push_answer};
+ghost use Rattle.fixed.specs.Pushing.{inserted, pushed, push_answer};
 
 use crate::blank::Blank;
 use std::alloc::AllocError;
@@ -106,10 +106,22 @@ impl<T: Blank, const N: usize> FixedVec<T, N> {
         ensures answers { result ≡ push_answer N self.old }
         ensures pushes { self.new ≡ pushed N value self.old }
     {
+        self.insert(self.len(), value)
+    }
+
+    // Puts a value at a place, before those that stand from there on; refused where no place is free. Past the last
+    // value it goes behind the others.
+    pub fn insert(&mut self, at: usize, value: T) -> Result<(), Full>
+        ensures answers { result ≡ push_answer N self.old }
+        ensures inserts { self.new ≡ inserted N at value self.old }
+    {
         if self.count == N {
             return Err(Full);
         }
-        self.items[self.count] = value;
+        let at = at.min(self.count);
+        let places = &mut self.items[..];
+        places[at..].rotate_right(1);
+        places[at] = value;
         self.count += 1;
         Ok(())
     }
@@ -135,7 +147,7 @@ impl<'a, T: Blank, const N: usize> IntoIterator for &'a FixedVec<T, N> {
 
     type IntoIter = Iter<'a, T>;
 
-    ghost into_iter_gives = { λ v r. (iter_rest r ≡ v.now) × (length (iter_rest r) < 2 ^ 64) × IterYieldsInOrder T };
+    ghost into_iter_gives = { λ v r. (iter_rest r ≡ v.now) × (length (iter_rest r) ≤ N) × IterYieldsInOrder T };
 
     fn into_iter(self) -> Iter<'a, T> {
         self.as_slice().iter()
