@@ -1,5 +1,5 @@
 -- A table in the making: the fields so far, added one behind another.
-use Rattle.std.specs.Prelude.{◌≡◌, ℕ, ◌+◌, ◌<◌, ◌≤◌, List, [], ◌∷◌, ◌++◌, length, take, drop, Ok, Err, Result}
+use Rattle.std.specs.Prelude.{◌≡◌, ℕ, ◌+◌, ◌<◌, ◌≤◌, List, [], ◌∷◌, ◌++◌, length, drop, Ok, Err, Result}
 use Rattle.frames.specs.Frames.{announced, first}
 use Rattle.tables.specs.declared.flaw.Refused.{Refused}
 use Rattle.tables.specs.Flaws.{number}
@@ -9,8 +9,6 @@ use Rattle.tables.specs.Tables.{field, start, windows_of}
 use Rattle.table_laws.specs.Placing.{Placed, walk}
 use Rattle.table_laws.specs.Whole.{windows_in_field}
 use Rattle.checked.specs.declared.gathered.Gathered.{Gathered}
-use Rattle.checked.specs.declared.gathered.Stood.{Stood}
-use Rattle.checked.specs.declared.parts.Parts.{Parts}
 use Rattle.checked.specs.Views.{said}
 
 -- the table so far, how many lives and windows stood, and the first bytes of the fields of outputs and triggers
@@ -63,9 +61,6 @@ added m f place = record {
 abbrev pub stood : Making → tables.Stood
 stood m = record { lives = m.lives; inputs = length m.table.inputs; outputs = length m.table.outputs; triggers = length m.table.triggers; windows = m.windows }
 
-abbrev pub stood_of : Stood → tables.Stood
-stood_of s = record { lives = s.lives; inputs = s.inputs; outputs = s.outputs; triggers = s.triggers; windows = s.windows }
-
 -- there is room for one field more
 abbrev pub Room : Making → Said → Type 0
 Room m (life n) = m.lives < 1
@@ -79,14 +74,9 @@ making g = record {
   table = said g.parts;
   lives = g.lives;
   windows = g.windows;
-  outputs_at = take g.parts.output_count g.output_places;
-  triggers_at = take g.parts.trigger_count g.trigger_places;
+  outputs_at = g.output_places;
+  triggers_at = g.trigger_places;
 }
-
--- so many outputs and triggers more
-pub record Counts (before : Parts) (outputs triggers : ℕ) (after : Parts) : Type 0 where
-  pub of_outputs : after.output_count ≡ before.output_count + outputs
-  pub of_triggers : after.trigger_count ≡ before.trigger_count + triggers
 
 -- a refusal by its number
 abbrev pub refusal_of : Refused → tables.Refusal

@@ -13,13 +13,7 @@ fn asked_stream(op: Op) -> Option<u8>
     ensures { result ≡ asked_stream op }
 {
     match op {
-        Op::Now { stream } => Some(stream),
-        Op::Past {
-            stream,
-            back: _,
-            default: _,
-        } => Some(stream),
-        Op::Held { stream, default: _ } => Some(stream),
+        Op::Now { stream } | Op::Past { stream, .. } | Op::Held { stream, .. } => Some(stream),
         _ => None,
     }
 }
@@ -36,16 +30,12 @@ impl Parts {
         if depth == 0 {
             return None;
         }
-        if output >= self.output_count {
+        let Some(asking) = self.outputs.as_slice().get(output) else {
             return Some(1);
-        }
-        let program = &self.outputs[output].program;
+        };
         let mut top = 0;
-        for k in 0..program.count {
-            let layer = self.operation_layer(output, program.ops[k], depth - 1)?;
-            if layer > top {
-                top = layer;
-            }
+        for op in &asking.program.ops {
+            top = top.max(self.operation_layer(output, *op, depth - 1)?);
         }
         Some(top + 1)
     }
@@ -60,11 +50,9 @@ impl Parts {
         let Some(stream) = asked_stream(op) else {
             return Some(0);
         };
-        let s = stream as usize;
-        if s < self.input_count {
+        let Some(asked) = (stream as usize).checked_sub(self.inputs.len()) else {
             return Some(0);
-        }
-        let asked = s - self.input_count;
+        };
         if asked == output {
             return Some(0);
         }

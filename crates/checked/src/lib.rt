@@ -1,11 +1,11 @@
 // Checked tables: tables of streams by value, of which each keeps every rule.
 #![tactic(auto)]
 
-mod build;
 pub mod element;
 mod gather;
 pub mod gathered;
 mod judge;
+mod layered;
 mod layers;
 pub mod parts;
 pub mod plan;
@@ -14,4 +14,3 @@ pub mod read;
 mod rules;
 pub mod table;
 pub mod text;
-pub mod windows;

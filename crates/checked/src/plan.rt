@@ -1,5 +1,6 @@
 // What a cycle needs of a table, worked out once.
 use aggregates::kind::Kind;
+use fixed::{Blank, FixedVec};
 
 // A window: the output that it stands in, the stream that it is over, and what it gives.
 #[derive(Clone, Copy)]
@@ -10,21 +11,34 @@ pub struct Window {
     pub duration: u32,
 }
 
-// Past what is there, each array holds zeros or blanks.
+impl Blank for Window {
+    ghost use Rattle.checked.specs.Blanks.{blank_window};
+
+    ghost blank = { blank_window };
+
+    fn blank() -> Window {
+        Window {
+            output: 0,
+            stream: 0,
+            kind: Kind::Count,
+            duration: 0,
+        }
+    }
+}
+
 #[derive(Clone, Copy)]
 pub struct Plan {
     // The layer of each output.
-    pub layers: [u8; 16],
+    pub layers: FixedVec<u8, 16>,
     // The outputs in the order of evaluation: the event-based ones, and then the periodic ones, each by layer and then
     // by number.
-    pub order: [u8; 16],
+    pub order: FixedVec<u8, 16>,
     // How many outputs are event-based.
     pub events: usize,
     // For each output the streams, as bits, that it uses by now or past, but for itself.
-    pub needs: [u32; 16],
+    pub needs: FixedVec<u32, 16>,
     // The windows, by output and then by operation.
-    pub windows: [Window; 8],
-    pub window_count: usize,
+    pub windows: FixedVec<Window, 8>,
     // For each stream the windows over it, as bits.
     pub over: [u8; 24],
 }

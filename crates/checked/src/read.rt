@@ -14,13 +14,10 @@ fn from_bytes(bytes: &[u8]) -> Result<Table, Refused>
     let gathered = gather(bytes)?;
     gathered.judge()?;
     let parts = gathered.parts;
-    let Some(layers) = parts.layers() else {
-        return Err(Refused {
-            flaw: Flaw::Circle,
-            place: bytes.len(),
-        });
+    let Some(layered) = parts.layered() else {
+        return Err(Flaw::Circle.at(bytes.len()));
     };
-    let plan = parts.plan(layers);
+    let plan = layered.plan();
     let size = bytes.len();
     Ok(Table { parts, plan, size })
 }

@@ -53,15 +53,12 @@ impl Parts {
     fn pace_of(&self, stream: u8) -> Pace
         ensures { result ≡ rules.pace_of (views.said self.now) stream }
     {
-        let s = stream as usize;
-        if s < self.input_count {
+        let Some(a) = (stream as usize).checked_sub(self.inputs.len()) else {
             return Pace::Event;
-        }
-        let a = s - self.input_count;
-        if a < self.output_count {
-            self.outputs[a].pace
-        } else {
-            Pace::Event
+        };
+        match self.outputs.as_slice().get(a) {
+            Some(output) => output.pace,
+            None => Pace::Event,
         }
     }
 
@@ -69,7 +66,7 @@ impl Parts {
     fn has_stream(&self, stream: u8) -> bool
         ensures { result ≡ asking.has_stream (views.said self.now) stream }
     {
-        (stream as usize) < self.input_count + self.output_count
+        (stream as usize) < self.inputs.len() + self.outputs.len()
     }
 
     // Whether an operation may stand in the output that is stream `me` and has this pace.
@@ -82,20 +79,15 @@ impl Parts {
                     && stream as usize != me
                     && keeps_pace(pace, self.pace_of(stream))
             }
-            Op::Past {
-                stream,
-                back: _,
-                default: _,
-            } => {
+            Op::Past { stream, .. } => {
                 self.has_stream(stream)
                     && (stream as usize == me || keeps_pace(pace, self.pace_of(stream)))
             }
-            Op::Held { stream, default: _ } => self.has_stream(stream) && stream as usize != me,
+            Op::Held { stream, .. } => self.has_stream(stream) && stream as usize != me,
             Op::Window {
                 stream,
-                kind: _,
                 duration,
-                default: _,
+                ..
             } => {
                 self.has_stream(stream)
                     && stream as usize != me
@@ -109,8 +101,8 @@ impl Parts {
     fn all_may(&self, me: usize, output: &Output) -> bool
         ensures { result ≡ rules.all (rules.may (views.said self.now) me output.now.pace) (listed output.now.program) }
     {
-        for i in 0..output.program.count {
-            if !self.may(me, output.pace, output.program.ops[i]) {
+        for op in &output.program.ops {
+            if !self.may(me, output.pace, *op) {
                 return false;
             }
         }
@@ -128,7 +120,7 @@ impl Parts {
     pub(crate) fn trigger_keeps(&self, trigger: &Trigger) -> bool
         ensures { result ≡ rules.trigger_keeps (views.said self.now) (views.trigger_of trigger.now) }
     {
-        trigger.stream as usize >= self.input_count && self.has_stream(trigger.stream)
+        trigger.stream as usize >= self.inputs.len() && self.has_stream(trigger.stream)
     }
 }
 
@@ -137,12 +129,7 @@ fn meets_other(me: usize, op: Op) -> bool
     ensures { result ≡ rules.meets_other me op }
 {
     match op {
-        Op::Now { stream } => stream as usize != me,
-        Op::Past {
-            stream,
-            back: _,
-            default: _,
-        } => stream as usize != me,
+        Op::Now { stream } | Op::Past { stream, .. } => stream as usize != me,
         _ => false,
     }
 }
@@ -151,8 +138,8 @@ fn meets_other(me: usize, op: Op) -> bool
 fn any_meets_other(me: usize, program: &Program) -> bool
     ensures { result ≡ rules.any (rules.meets_other me) (listed program.now) }
 {
-    for i in 0..program.count {
-        if meets_other(me, program.ops[i]) {
+    for op in &program.ops {
+        if meets_other(me, *op) {
             return true;
         }
     }

@@ -1,8 +1,8 @@
-use Rattle.std.proofs.Common.{◌≤◌, length, sym, arith}
+use Rattle.std.proofs.Common.{sym, ◌∙◌, arith}
+use Rattle.std.proofs.lemmas.List.{length-map}
 use Rattle.std.proofs.lemmas.Result.{err_from_is_err_and}
 use Rattle.checked.specs.Gathering.{making}
 use Rattle.checked.specs.Views.{output_of}
-use Rattle.checked.proofs.Padding.{count_said}
 use Rattle.checked.proofs.Walking.{walk_ends, walk_more, walk_none, walk_room, walk_start, walk_stops}
 use Rattle.checked.proofs.gather.gather.Goals as goal
 
@@ -27,14 +27,8 @@ loop-at-smaller c =
 pub loop-at-preserved : goal.loop-at-preserved
 loop-at-preserved c = walk_more _ _ _ c.loop-at.invariant c.in_ok-at.field-0 (making c.field.new.self) c.loop-at-test.true c.in_ok-at.ensures
 
-pub returns-then-gathered-eq0 : goal.returns-then-gathered-eq0
-returns-then-gathered-eq0 c =
-    let p = c.loop-at.gathered.parts in
-    let few : p.output_count ≤ length p.outputs = omega (arith, p.few_outputs, p.long_outputs) in
-    walk_none _ _ _ c.loop-at.invariant p.output_count c.loop-at-test.false (sym (count_said output_of p.output_count p.outputs few)) c.if-gathered-eq0.true
+pub returns-then-len-eq0 : goal.returns-then-len-eq0
+returns-then-len-eq0 c = rw c.at.ensures (walk_none _ _ _ c.loop-at.invariant c.len.result c.loop-at-test.false (c.len.ensures.count ∙ sym (length-map c.loop-at.gathered.parts.outputs output_of)) c.if-len-eq0.true)
 
 pub returns : goal.returns
-returns c =
-    let p = c.loop-at.gathered.parts in
-    let few : p.output_count ≤ length p.outputs = omega (arith, p.few_outputs, p.long_outputs) in
-    walk_ends _ _ _ c.loop-at.invariant p.output_count c.loop-at-test.false (sym (count_said output_of p.output_count p.outputs few)) c.if-gathered-eq0.false
+returns c = walk_ends _ _ _ c.loop-at.invariant c.len.result c.loop-at-test.false (c.len.ensures.count ∙ sym (length-map c.loop-at.gathered.parts.outputs output_of)) c.if-len-eq0.false

@@ -1,6 +1,6 @@
-use Rattle.std.proofs.Common.{◌≡◌, ◌≤◌, take}
+use Rattle.std.proofs.Common.{◌≡◌, ◌+◌, ◌≤◌, length}
 use Rattle.tables.specs.Tables.{windows_of}
 use Rattle.checked.proofs.gather.windows_in.Given as goal
 
-abbrev pub invariant-loop-i : goal.invariant-loop-i
-invariant-loop-i l = (l.windows ≡ windows_of (take l.i l.program.ops)) × (l.windows ≤ l.i)
+abbrev pub invariant-loop-op : goal.invariant-loop-op
+invariant-loop-op l = (l.windows + windows_of l.op-iterator.rest.now ≡ windows_of l.program.ops) × (l.windows + length l.op-iterator.rest.now ≤ 16)
