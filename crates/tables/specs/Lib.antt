@@ -9,5 +9,6 @@ pub mod Reading
 pub mod Rules
 pub mod Sound
 pub mod Tables
+pub mod Tags
 pub mod Worked
 pub mod WorkedTables

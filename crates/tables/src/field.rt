@@ -1,14 +1,79 @@
 // The fields of a table, each with its parts still in the table's bytes.
-ghost use Rattle.std.specs.Prelude.{◌≡◌, ◌<◌, true, length, take, IfOk};
+ghost use Rattle.std.specs.Prelude.{◌≡◌, ◌<◌, ◌++◌, true, length, take, codes, Some, IfOk};
+ghost use Rattle.std.specs.Fmt.{decimal};
+ghost use Rattle.tables.specs.declared.flaw.Flaw.TheVariants.{Order};
 ghost use Rattle.tables.specs.Fields as fields;
 ghost use Rattle.tables.specs.Flaws.{numbered};
 ghost use Rattle.tables.specs.Reading as reading;
+ghost use Rattle.tables.specs.Tags.{Decodes, tag_number};
 ghost use Rattle.tables.specs.Worked as cases;
 ghost use Rattle.tables.specs.WorkedTables as wholes;
 
 use crate::flaw::Flaw;
 use crate::op::{Pace, Program};
 use crate::word;
+use std::error::Error;
+use std::fmt;
+
+// What a field says, by the byte that stands before it.
+#[derive(Clone, Copy, PartialEq, Eq, Debug)]
+pub enum Tag {
+    Life = 1,
+    Input = 2,
+    // An output that is worked out with readings.
+    Event = 3,
+    // An output that is worked out at each multiple of a period.
+    Periodic = 4,
+    Trigger = 5,
+}
+
+impl Tag {
+    // The byte that stands for the tag.
+    pub fn number(self) -> u8
+        ensures { result ≡ tag_number self }
+    {
+        self as u8
+    }
+}
+
+// A byte that no tag has.
+#[derive(Clone, Copy, PartialEq, Eq, Debug)]
+pub struct UnknownTag(pub u8);
+
+impl TryFrom<u8> for Tag {
+    type Error = UnknownTag;
+
+    ghost try_from_gives = { Decodes };
+
+    fn try_from(number: u8) -> Result<Tag, UnknownTag> {
+        match number {
+            1 => Ok(Tag::Life),
+            2 => Ok(Tag::Input),
+            3 => Ok(Tag::Event),
+            4 => Ok(Tag::Periodic),
+            5 => Ok(Tag::Trigger),
+            _ => Err(UnknownTag(number)),
+        }
+    }
+}
+
+impl fmt::Display for UnknownTag {
+    ghost output = { λ unknown. Some (codes "no field has the tag " ++ decimal unknown.0) };
+
+    fn fmt<W: fmt::Write>(&self, f: &mut fmt::Formatter<W>) -> fmt::Result {
+        write!(f, "no field has the tag {}", self.0)
+    }
+}
+
+impl Error for UnknownTag {}
+
+impl From<UnknownTag> for Flaw {
+    ghost from_gives = { λ _ flaw. flaw ≡ Order };
+
+    fn from(_unknown: UnknownTag) -> Flaw {
+        Flaw::Order
+    }
+}
 
 #[derive(Clone, Copy)]
 pub enum Field<'a> {
@@ -182,13 +247,12 @@ fn trigger<'a>(bytes: &'a [u8]) -> Result<Field<'a>, Flaw>
 pub fn read_field<'a>(tag: u8, content: &'a [u8], windows: u8) -> Result<Field<'a>, Flaw>
     ensures { fields.said result ≡ reading.content tag windows content.now }
 {
-    match tag {
-        1 => life(content),
-        2 => input(content),
-        3 => output(Pace::Event, content, windows),
-        4 => periodic(content, windows),
-        5 => trigger(content),
-        _ => Err(Flaw::Order),
+    match Tag::try_from(tag)? {
+        Tag::Life => life(content),
+        Tag::Input => input(content),
+        Tag::Event => output(Pace::Event, content, windows),
+        Tag::Periodic => periodic(content, windows),
+        Tag::Trigger => trigger(content),
     }
 }
 
