@@ -1,16 +1,16 @@
 -- The contents of fields: texts, names, outputs.
-use Rattle.std.proofs.Common.{◌≡◌, ℕ, suc, ◌+◌, ◌-◌, ◌<◌, ◌≤◌, Bool, true, false, List, [], ◌∷◌, length, get_or, take, drop, Ok, Err, Result, sym, refl, ap, ◌∙◌, subst, arith}
+use Rattle.std.proofs.Common.{◌≡◌, ℕ, suc, ◌+◌, ◌-◌, ◌<◌, ◌≤◌, Bool, true, false, List, [], ◌∷◌, length, get_or, take, drop, Ok, Err, Result, sym, refl, ap, ◌∙◌, arith}
 use Rattle.std.proofs.lemmas.List.{drop-drop, length-drop, take_rest}
 use Rattle.std.proofs.lemmas.Bool.{and_from, le-leb}
 use Rattle.tables.specs.declared.op.Op.{Op}
 use Rattle.tables.specs.declared.op.Pace.{Pace}
 use Rattle.tables.specs.declared.op.Pace.TheVariants.{Every}
-use Rattle.tables.specs.Fields.{each, name_size, ops_in, some_ops, stands, text_to_end}
+use Rattle.tables.specs.Fields.{each, name_size, ops_in, stands, text_to_end}
 use Rattle.tables.specs.Kinds.{Said, output, trigger}
 use Rattle.tables.specs.Programs.{all_ops}
 use Rattle.tables.specs.Reading.{closed, content, fits, word_of, ops, outputs, some, test, text, till, with_ops, within}
-use Rattle.tables.proofs.Operations.{fewer_windows, ops_handed}
-use Rattle.tables.proofs.Readers.{Alike, alike_at}
+use Rattle.tables.proofs.Operations.{after, fewer_windows, ops_after}
+use Rattle.tables.proofs.Readers.{alike_at}
 use Rattle.tables.proofs.Texts.{name_alike, some_on, text_bad, text_good, text_short, till_bad, till_good, till_long, to_end_on, to_end_stops}
 
 -- a text to the field's end
@@ -70,19 +70,17 @@ module _ (p : Pace) (w : ℕ) (s bs : List ℕ) (more : 0 < length bs) where
   abbrev judged : List Op → Result Said ℕ
   judged os = test (fits 0 os) 6 (closed (output (record { pace = p; name = s; ops = os }))) []
 
-  with_ops_alike : Alike (λ os y. y ≡ judged os) (all_ops w bs) (with_ops p w s bs)
-  with_ops_alike = subst (λ y. Alike (λ os y. y ≡ judged os) (all_ops w bs) y) (sym (some_on (ops 16 w judged) bs more)) (ops_handed 16 w (λ os. os) judged bs)
+  read_after : with_ops p w s bs ≡ after judged (all_ops w bs)
+  read_after = some_on (ops 16 w judged) bs more ∙ ops_after 16 w (λ os. os) judged bs
 
   pub ops_stop : (e : ℕ) → Err e ≡ all_ops w bs → Err e ≡ with_ops p w s bs
-  ops_stop e is = sym (alike_at (λ os y. y ≡ judged os) (Err e) (with_ops p w s bs) is with_ops_alike)
+  ops_stop e is = rw (read_after, ← is) refl
 
   pub ops_unfit : (os : List Op) → Ok os ≡ all_ops w bs → false ≡ fits 0 os → Err 6 ≡ with_ops p w s bs
-  ops_unfit os is no-fit = sym (alike_at (λ os y. y ≡ judged os) (Ok os) (with_ops p w s bs) is with_ops_alike ∙ ap (λ b. test b 6 (closed (output (record { pace = p; name = s; ops = os }))) []) (sym no-fit))
+  ops_unfit os is no-fit = rw (read_after, ← is, ← no-fit) refl
 
   pub ops_fit : (os : List Op) → Ok os ≡ all_ops w bs → true ≡ fits 0 os → Ok (output (record { pace = p; name = s; ops = ops_in bs })) ≡ with_ops p w s bs
-  ops_fit os is fit =
-      ap (λ r. Ok (output (record { pace = p; name = s; ops = some_ops r }))) (sym (fewer_windows w bs os is))
-      ∙ sym (alike_at (λ os y. y ≡ judged os) (Ok os) (with_ops p w s bs) is with_ops_alike ∙ ap (λ b. test b 6 (closed (output (record { pace = p; name = s; ops = os }))) []) (sym fit))
+  ops_fit os is fit = rw (read_after, ← is, ← fewer_windows w bs os is, ← fit) refl
 
 -- the stream of a trigger, and its message after it
 module _ (bs : List ℕ) (more : 0 < length bs) where

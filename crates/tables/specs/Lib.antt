@@ -1,6 +1,7 @@
 pub mod Asking
 pub mod Fields
 pub mod Flaws
+pub mod Fronts
 pub mod Kinds
 pub mod Layers
 pub mod Plans

@@ -8,6 +8,7 @@ ghost use Rattle.tables.specs.Reading.{word_of};
 
 pub mod field;
 pub mod flaw;
+mod front;
 pub mod op;
 pub mod program;
 
