@@ -1,28 +1,11 @@
--- Two readings of the same bytes, which go on in their own ways.
-use Rattle.std.proofs.Common.{◌≡◌, ℕ, zero, suc, ◌≤◌, Bool, true, false, ltb, List, [], ◌∷◌, ℤ, Some, None, Ok, Err, Option, Result, sym, refl, ap, ◌∙◌, subst, arith, w32, to_z}
+-- What goes on after a reading from the front.
+use Rattle.std.proofs.Common.{◌≡◌, ℕ, zero, suc, ◌≤◌, Bool, true, false, ltb, List, [], ◌∷◌, ℤ, Some, None, Ok, Err, Option, Result, refl, ap, ◌∙◌, arith, w32, to_z}
 use Rattle.std.proofs.lemmas.Bool.{lt-ltb, ltb-true}
 use Rattle.aggregates.specs.declared.kind.Kind.{Kind}
 use Rattle.tables.specs.declared.op.Op.{Op}
 use Rattle.tables.specs.declared.op.Op.TheVariants.{Number, Now, Past, Held, Window}
 use Rattle.tables.specs.Fronts.{kept}
 use Rattle.tables.specs.Reading.{aggregate, byte, given, kind_of, word_of, operands, signed, test, within, word}
-
--- two readings refuse alike, and where the first gives a value it stands in a relation to the second
-abbrev pub Alike : {X Y : Type 0} → (X → Result Y ℕ → Type 0) → Result X ℕ → Result Y ℕ → Type 0
-Alike R (Ok x) y = R x y
-Alike R (Err e) y = y ≡ Err e
-
-pub alike_weaker : {X Y : Type 0} (R S : X → Result Y ℕ → Type 0) (x : Result X ℕ) (y : Result Y ℕ) → ((v : X) → R v y → S v y) → Alike R x y → Alike S x y
-alike_weaker R S (Ok v) y h a = h v a
-alike_weaker R S (Err e) y h a = a
-
--- what is known of the first reading
-pub alike_at : {X Y : Type 0} (R : X → Result Y ℕ → Type 0) (x : Result X ℕ) {r : Result X ℕ} (y : Result Y ℕ) → x ≡ r → Alike R r y → Alike R x y
-alike_at R x y is a = subst (λ v. Alike R v y) (sym is) a
-
-pub test_alike : {X Y : Type 0} (R : X → Result Y ℕ → Type 0) (b : Bool) (e : ℕ) (j : List ℕ → Result X ℕ) (k : List ℕ → Result Y ℕ) (r : List ℕ) → (b ≡ true → Alike R (j r) (k r)) → Alike R (test b e j r) (test b e k r)
-test_alike R true e j k r h = h refl
-test_alike R false e j k r h = refl
 
 -- goes on with what was read
 abbrev pub onward : {X Y : Type 0} → (X → List ℕ → Result Y ℕ) → Result (X × List ℕ) ℕ → Result Y ℕ

@@ -1,6 +1,7 @@
 // The fields of a table, each with its parts still in the table's bytes.
-ghost use Rattle.std.specs.Prelude.{◌≡◌, ◌<◌, ◌++◌, true, length, take, codes, Some, IfOk};
+ghost use Rattle.std.specs.Prelude.{◌≡◌, ◌<◌, ◌≤◌, ◌↔◌, ◌++◌, true, length, take, codes, Some, IfOk, All, IsTrue};
 ghost use Rattle.std.specs.Fmt.{decimal};
+ghost use Rattle.std.specs.List.{list_all};
 ghost use Rattle.tables.specs.declared.flaw.Flaw.TheVariants.{Order};
 ghost use Rattle.tables.specs.Fields as fields;
 ghost use Rattle.tables.specs.Flaws.{numbered};
@@ -10,8 +11,8 @@ ghost use Rattle.tables.specs.Worked as cases;
 ghost use Rattle.tables.specs.WorkedTables as wholes;
 
 use crate::flaw::Flaw;
+use crate::front::word;
 use crate::op::{Pace, Program};
-use crate::word;
 use std::error::Error;
 use std::fmt;
 
@@ -96,18 +97,9 @@ pub enum Field<'a> {
 
 // Whether the first bytes, at most so many, are from low to 126.
 fn in_range(bytes: &[u8], low: u8, most: usize) -> bool
-    ensures { result ≡ fields.each low (take most bytes.now) }
+    ensures { result ≡ list_all (reading.within low 126) (take most bytes.now) }
 {
-    for (i, b) in bytes.iter().enumerate() {
-        if i >= most {
-            return true;
-        }
-        let v = *b;
-        if v < low || v > 126 {
-            return false;
-        }
-    }
-    true
+    bytes.iter().take(most).all(|b| (low..=126).contains(b))
 }
 
 // A text to the field's end, of at most so many bytes.
@@ -129,63 +121,42 @@ fn text_to_end(bytes: &[u8], low: u8, most: usize) -> Result<(), Flaw>
 fn life<'a>(bytes: &'a [u8]) -> Result<Field<'a>, Flaw>
     ensures { fields.said result ≡ reading.content 1 0 bytes.now }
 {
-    if bytes.len() < 4 {
-        return Err(Flaw::Extent);
-    }
-    let n = word(bytes, 0);
-    if n < 1 || n > 2_000_000_000 {
+    let (life, rest) = word(bytes)?;
+    if !(1..=2_000_000_000).contains(&life) {
         return Err(Flaw::Range);
     }
-    if bytes.len() > 4 {
+    if !rest.is_empty() {
         return Err(Flaw::Extent);
     }
-    Ok(Field::Life(n))
-}
-
-// Whether the name of an input stands there.
-fn input_name(bytes: &[u8]) -> Result<(), Flaw>
-    ensures { numbered result ≡ fields.text_to_end 33 16 bytes.now }
-{
-    text_to_end(bytes, 33, 16)
+    Ok(Field::Life(life))
 }
 
 fn input<'a>(bytes: &'a [u8]) -> Result<Field<'a>, Flaw>
     ensures { fields.said result ≡ reading.content 2 0 bytes.now }
 {
-    input_name(bytes)?;
+    text_to_end(bytes, 33, 16)?;
     Ok(Field::Input(bytes))
 }
 
-// The length of an output's name.
-fn name_size(bytes: &[u8]) -> Result<usize, Flaw>
-    ensures value { numbered result ≡ fields.name_size bytes.now }
-    ensures within { IfOk result (λ n. n < length bytes.now) }
+// An output's name, by the length before it, and the operations after it.
+fn name<'a>(bytes: &'a [u8]) -> Result<(&'a [u8], &'a [u8]), Flaw>
+    ensures { fields.parted result ≡ fields.named bytes.now }
 {
-    if bytes.is_empty() {
+    let [size, rest @ ..] = bytes else {
         return Err(Flaw::Extent);
-    }
-    let size = bytes[0] as usize;
-    if size < 1 || size > 16 {
+    };
+    let size = *size as usize;
+    if !(1..=16).contains(&size) || !in_range(rest, 33, size) {
         return Err(Flaw::Range);
     }
-    if !in_range(&bytes[1..], 33, size) {
-        return Err(Flaw::Range);
-    }
-    if bytes.len() - 1 < size {
-        return Err(Flaw::Extent);
-    }
-    Ok(size)
+    rest.split_at_checked(size).ok_or(Flaw::Extent)
 }
 
-// An output from its operations on.
-fn with_operations<'a>(
-    pace: Pace,
-    name: &'a [u8],
-    operations: &'a [u8],
-    windows: u8,
-) -> Result<Field<'a>, Flaw>
-    ensures { fields.said result ≡ reading.with_ops pace windows name.now operations.now }
+// An output after its period.
+fn output<'a>(pace: Pace, bytes: &'a [u8], windows: u8) -> Result<Field<'a>, Flaw>
+    ensures { fields.said result ≡ reading.outputs pace windows bytes.now }
 {
+    let (name, operations) = name(bytes)?;
     if operations.is_empty() {
         return Err(Flaw::Extent);
     }
@@ -200,44 +171,25 @@ fn with_operations<'a>(
     })
 }
 
-// An output after its period.
-fn output<'a>(pace: Pace, bytes: &'a [u8], windows: u8) -> Result<Field<'a>, Flaw>
-    ensures { fields.said result ≡ reading.outputs pace windows bytes.now }
-{
-    let size = name_size(bytes)?;
-    with_operations(pace, &bytes[1..1 + size], &bytes[1 + size..], windows)
-}
-
 fn periodic<'a>(bytes: &'a [u8], windows: u8) -> Result<Field<'a>, Flaw>
     ensures { fields.said result ≡ reading.content 4 windows bytes.now }
 {
-    if bytes.len() < 4 {
-        return Err(Flaw::Extent);
-    }
-    let period = word(bytes, 0);
-    if period < 1 || period > 86_400_000 {
+    let (period, rest) = word(bytes)?;
+    if !(1..=86_400_000).contains(&period) {
         return Err(Flaw::Range);
     }
-    output(Pace::Every(period), &bytes[4..], windows)
-}
-
-// Whether the message of a trigger stands there.
-fn trigger_message(bytes: &[u8]) -> Result<(), Flaw>
-    ensures { numbered result ≡ fields.text_to_end 32 32 bytes.now }
-{
-    text_to_end(bytes, 32, 32)
+    output(Pace::Every(period), rest, windows)
 }
 
 fn trigger<'a>(bytes: &'a [u8]) -> Result<Field<'a>, Flaw>
     ensures { fields.said result ≡ reading.content 5 0 bytes.now }
 {
-    if bytes.is_empty() {
+    let [stream, message @ ..] = bytes else {
         return Err(Flaw::Extent);
-    }
-    let message = &bytes[1..];
-    trigger_message(message)?;
+    };
+    text_to_end(message, 32, 32)?;
     Ok(Field::Trigger {
-        stream: bytes[0],
+        stream: *stream,
         message,
     })
 }
