@@ -60,6 +60,9 @@ next_read (suc m) w k (c ∷ bs) room some =
     let one : m ≡ suc m - 1 = omega arith in
     operands_onward w (next_ops m w k) c bs ∙ ap (λ n. onward (next_ops n w k) (operands w c kept bs)) one
 
+pub length_more : (o : Op) (done : List Op) → length done < 16 → length (pushed 16 o done) ≡ length done + 1
+length_more o done room = ap length (take_all 16 (done ++ (o ∷ [])) (omega (arith, length_push done o))) ∙ length_push done o
+
 module _ (bytes : List ℕ) (before : ℕ) (done : List Op) (rest : List ℕ) (w : ℕ) (k : Working bytes before done rest w) (some : 0 < length rest) (room : length done < 16) where
   read_on : onward (next_ops (16 - length done - 1) w (λ os. Ok (done ++ os))) (first_op w rest) ≡ all_ops before bytes
   read_on = sym (next_read (16 - length done) w (λ os. Ok (done ++ os)) rest (omega arith) some) ∙ k.same
@@ -70,8 +73,9 @@ module _ (bytes : List ℕ) (before : ℕ) (done : List Op) (rest : List ℕ) (w
   pub work_more : (o : Op) (left : List ℕ) (now : List Op) (v : ℕ) → Ok (o, left) ≡ first_op w rest → now ≡ pushed 16 o done → v ≡ w + windows_in o → Working bytes before now left v
   work_more o left now v is push windows =
       let more : now ≡ done ++ (o ∷ []) = push ∙ take_all 16 (done ++ (o ∷ [])) (omega (arith, length_push done o)) in
-      let m : 16 - length now ≡ 16 - length done - 1 = omega (arith, ap length more, length_push done o) in
+      let count : length now ≡ length done + 1 = ap length push ∙ length_more o done room in
+      let m : 16 - length now ≡ 16 - length done - 1 = omega arith in
       record {
-        few = omega (arith, ap length more, length_push done o);
+        few = omega arith;
         same = (λ i. ops (m i) (windows i) (λ os. Ok ((ap (λ l. l ++ os) more ∙ append_assoc done (o ∷ []) os) i)) left) ∙ ap (onward (next_ops (16 - length done - 1) w (λ os. Ok (done ++ os)))) is ∙ read_on;
       }

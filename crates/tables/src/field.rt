@@ -1,5 +1,5 @@
 // The fields of a table, each with its parts still in the table's bytes.
-ghost use Rattle.std.specs.Prelude.{◌≡◌, ◌<◌, ◌≤◌, ◌↔◌, ◌++◌, true, length, take, codes, Some, IfOk, All, IsTrue};
+ghost use Rattle.std.specs.Prelude.{◌≡◌, ◌++◌, true, take, codes, Some};
 ghost use Rattle.std.specs.Fmt.{decimal};
 ghost use Rattle.std.specs.List.{list_all};
 ghost use Rattle.tables.specs.declared.flaw.Flaw.TheVariants.{Order};
@@ -118,7 +118,7 @@ fn text_to_end(bytes: &[u8], low: u8, most: usize) -> Result<(), Flaw>
     Ok(())
 }
 
-fn life<'a>(bytes: &'a [u8]) -> Result<Field<'a>, Flaw>
+fn life(bytes: &[u8]) -> Result<Field<'_>, Flaw>
     ensures { fields.said result ≡ reading.content 1 0 bytes.now }
 {
     let (life, rest) = word(bytes)?;
@@ -131,7 +131,7 @@ fn life<'a>(bytes: &'a [u8]) -> Result<Field<'a>, Flaw>
     Ok(Field::Life(life))
 }
 
-fn input<'a>(bytes: &'a [u8]) -> Result<Field<'a>, Flaw>
+fn input(bytes: &[u8]) -> Result<Field<'_>, Flaw>
     ensures { fields.said result ≡ reading.content 2 0 bytes.now }
 {
     text_to_end(bytes, 33, 16)?;
@@ -139,7 +139,7 @@ fn input<'a>(bytes: &'a [u8]) -> Result<Field<'a>, Flaw>
 }
 
 // An output's name, by the length before it, and the operations after it.
-fn name<'a>(bytes: &'a [u8]) -> Result<(&'a [u8], &'a [u8]), Flaw>
+fn name(bytes: &[u8]) -> Result<(&[u8], &[u8]), Flaw>
     ensures { fields.parted result ≡ fields.named bytes.now }
 {
     let [size, rest @ ..] = bytes else {
@@ -153,7 +153,7 @@ fn name<'a>(bytes: &'a [u8]) -> Result<(&'a [u8], &'a [u8]), Flaw>
 }
 
 // An output after its period.
-fn output<'a>(pace: Pace, bytes: &'a [u8], windows: u8) -> Result<Field<'a>, Flaw>
+fn output(pace: Pace, bytes: &[u8], windows: u8) -> Result<Field<'_>, Flaw>
     ensures { fields.said result ≡ reading.outputs pace windows bytes.now }
 {
     let (name, operations) = name(bytes)?;
@@ -171,7 +171,7 @@ fn output<'a>(pace: Pace, bytes: &'a [u8], windows: u8) -> Result<Field<'a>, Fla
     })
 }
 
-fn periodic<'a>(bytes: &'a [u8], windows: u8) -> Result<Field<'a>, Flaw>
+fn periodic(bytes: &[u8], windows: u8) -> Result<Field<'_>, Flaw>
     ensures { fields.said result ≡ reading.content 4 windows bytes.now }
 {
     let (period, rest) = word(bytes)?;
@@ -181,7 +181,7 @@ fn periodic<'a>(bytes: &'a [u8], windows: u8) -> Result<Field<'a>, Flaw>
     output(Pace::Every(period), rest, windows)
 }
 
-fn trigger<'a>(bytes: &'a [u8]) -> Result<Field<'a>, Flaw>
+fn trigger(bytes: &[u8]) -> Result<Field<'_>, Flaw>
     ensures { fields.said result ≡ reading.content 5 0 bytes.now }
 {
     let [stream, message @ ..] = bytes else {
@@ -196,7 +196,7 @@ fn trigger<'a>(bytes: &'a [u8]) -> Result<Field<'a>, Flaw>
 
 // The field that a content says under a tag, where so many windows stand before it in the table; from eight on no
 // other window may stand.
-pub fn read_field<'a>(tag: u8, content: &'a [u8], windows: u8) -> Result<Field<'a>, Flaw>
+pub fn read_field(tag: u8, content: &[u8], windows: u8) -> Result<Field<'_>, Flaw>
     ensures { fields.said result ≡ reading.content tag windows content.now }
 {
     match Tag::try_from(tag)? {

@@ -1,5 +1,5 @@
 // Numbers at the front of bytes, each with the bytes after it.
-ghost use Rattle.std.specs.Prelude.{◌≡◌, ◌+◌, length, IfOk};
+ghost use Rattle.std.specs.Prelude.{◌≡◌};
 ghost use Rattle.tables.specs.Fronts.{front, kept};
 ghost use Rattle.tables.specs.Reading as reading;
 
@@ -7,8 +7,7 @@ use crate::flaw::Flaw;
 
 // Four bytes, low byte first.
 pub(crate) fn word(bytes: &[u8]) -> Result<(u32, &[u8]), Flaw>
-    ensures value { front result ≡ reading.word kept bytes.now }
-    ensures size { IfOk result (λ p. length p.1.now + 4 ≡ length bytes.now) }
+    ensures { front result ≡ reading.word kept bytes.now }
 {
     let [a, b, c, d, rest @ ..] = bytes else {
         return Err(Flaw::Extent);
@@ -18,8 +17,7 @@ pub(crate) fn word(bytes: &[u8]) -> Result<(u32, &[u8]), Flaw>
 
 // The same in two's complement.
 pub(crate) fn signed(bytes: &[u8]) -> Result<(i32, &[u8]), Flaw>
-    ensures value { front result ≡ reading.signed kept bytes.now }
-    ensures size { IfOk result (λ p. length p.1.now + 4 ≡ length bytes.now) }
+    ensures { front result ≡ reading.signed kept bytes.now }
 {
     let (value, rest) = word(bytes)?;
     Ok((value.cast_signed(), rest))

@@ -1,5 +1,5 @@
 // The operations of an output, read from bytes.
-ghost use Rattle.std.specs.Prelude.{◌≡◌, ◌+◌, ◌-◌, ◌<◌, ◌≤◌, length, IfOk};
+ghost use Rattle.std.specs.Prelude.{◌≡◌};
 ghost use Rattle.tables.specs.Fronts.{front, kept};
 ghost use Rattle.tables.specs.Programs as programs;
 ghost use Rattle.tables.specs.Reading as reading;
@@ -11,16 +11,14 @@ use aggregates::kind::Kind;
 use fixed::FixedVec;
 
 fn number(bytes: &[u8]) -> Result<(Op, &[u8]), Flaw>
-    ensures value { front result ≡ reading.operands 0 1 kept bytes.now }
-    ensures size { IfOk result (λ p. length p.1.now ≤ length bytes.now) }
+    ensures { front result ≡ reading.operands 0 1 kept bytes.now }
 {
     let (value, rest) = signed(bytes)?;
     Ok((Op::Number(value), rest))
 }
 
 fn present(bytes: &[u8]) -> Result<(Op, &[u8]), Flaw>
-    ensures value { front result ≡ reading.operands 0 2 kept bytes.now }
-    ensures size { IfOk result (λ p. length p.1.now ≤ length bytes.now) }
+    ensures { front result ≡ reading.operands 0 2 kept bytes.now }
 {
     let [stream, rest @ ..] = bytes else {
         return Err(Flaw::Extent);
@@ -29,8 +27,7 @@ fn present(bytes: &[u8]) -> Result<(Op, &[u8]), Flaw>
 }
 
 fn past(bytes: &[u8]) -> Result<(Op, &[u8]), Flaw>
-    ensures value { front result ≡ reading.operands 0 3 kept bytes.now }
-    ensures size { IfOk result (λ p. length p.1.now ≤ length bytes.now) }
+    ensures { front result ≡ reading.operands 0 3 kept bytes.now }
 {
     let [stream, back, rest @ ..] = bytes else {
         return Err(Flaw::Extent);
@@ -48,8 +45,7 @@ fn past(bytes: &[u8]) -> Result<(Op, &[u8]), Flaw>
 }
 
 fn held(bytes: &[u8]) -> Result<(Op, &[u8]), Flaw>
-    ensures value { front result ≡ reading.operands 0 4 kept bytes.now }
-    ensures size { IfOk result (λ p. length p.1.now ≤ length bytes.now) }
+    ensures { front result ≡ reading.operands 0 4 kept bytes.now }
 {
     let [stream, rest @ ..] = bytes else {
         return Err(Flaw::Extent);
@@ -63,8 +59,7 @@ fn held(bytes: &[u8]) -> Result<(Op, &[u8]), Flaw>
 }
 
 fn window(bytes: &[u8], windows: u8) -> Result<(Op, &[u8]), Flaw>
-    ensures value { front result ≡ reading.operands windows 5 kept bytes.now }
-    ensures size { IfOk result (λ p. length p.1.now ≤ length bytes.now) }
+    ensures { front result ≡ reading.operands windows 5 kept bytes.now }
 {
     if windows >= 8 {
         return Err(Flaw::Range);
@@ -86,8 +81,7 @@ fn window(bytes: &[u8], windows: u8) -> Result<(Op, &[u8]), Flaw>
 
 // The first operation.
 fn first(bytes: &[u8], windows: u8) -> Result<(Op, &[u8]), Flaw>
-    ensures value { front result ≡ programs.first_op windows bytes.now }
-    ensures size { IfOk result (λ p. length p.1.now < length bytes.now) }
+    ensures { front result ≡ programs.first_op windows bytes.now }
 {
     let [code, rest @ ..] = bytes else {
         return Err(Flaw::Extent);
@@ -136,10 +130,11 @@ impl Op {
 fn height_after(height: u8, taken: u8) -> Option<u8>
     ensures { result ≡ programs.height_after height taken }
 {
-    if height < taken || height - taken >= 8 {
+    let left = height.checked_sub(taken)?;
+    if left >= 8 {
         return None;
     }
-    Some(height - taken + 1)
+    Some(left + 1)
 }
 
 impl Program {

@@ -14,8 +14,8 @@ no_aggregate w [] room long none = absurd (omega arith)
 no_aggregate w (s ∷ []) room long none = absurd (omega arith)
 no_aggregate w (s ∷ n ∷ bs) room long none = rw (lt-ltb w 8 room, ← none) refl
 
-pub returns-in_err-kind-clause-value : goal.returns-in_err-kind-clause-value
-returns-in_err-kind-clause-value c =
+pub returns-in_err-kind : goal.returns-in_err-kind
+returns-in_err-kind c =
     let p = err_from_is_err_and c.from_residual.result c.from_residual.ensures.1 in
     let none = c.in_err-kind.ensures.ok_part in
     let is : c.in_err-kind.field-0.0 ≡ Range = cc (c.in_err-kind.ensures.value ∙ ap (λ o. ok_or o Range) none) in
