@@ -9,7 +9,7 @@ use Rattle.aggregates.specs.Kinds as kinds
 use Rattle.log_laws.proofs.Numbers.{low_number, number_low, number_small}
 use Rattle.frames.specs.Frames.{number}
 use Rattle.log_laws.specs.Laws.{Octets}
-use Rattle.tables.proofs.Operations.{kind_is}
+use Rattle.tables.proofs.Aggregates.{kind_is}
 use Rattle.tables.specs.Reading.{aggregate, byte, closed, found, given, kind_of, ranged, signed, some, test, text, till, within, word, word_of}
 use Rattle.tables.specs.Rules.{all}
 use Rattle.tables.specs.Sound.{is_byte, is_value}

@@ -1,3 +1,4 @@
+pub mod Aggregates
 pub mod Circles
 pub mod Contents
 pub mod Operations

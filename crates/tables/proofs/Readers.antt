@@ -1,100 +1,65 @@
--- Two readings of the same bytes, which go on in their own ways.
-use Rattle.std.proofs.Common.{◌≡◌, ℕ, zero, suc, ◌+◌, ◌-◌, ◌≤◌, Bool, true, false, ltb, List, [], ◌∷◌, length, drop, ℤ, Some, None, Ok, Err, Option, Result, sym, refl, ap, ◌∙◌, subst, arith, w32, to_z}
-use Rattle.std.proofs.lemmas.List.{drop-drop}
+-- What goes on after a reading from the front.
+use Rattle.std.proofs.Common.{◌≡◌, ℕ, zero, suc, ◌≤◌, Bool, true, false, ltb, List, [], ◌∷◌, ℤ, Some, None, Ok, Err, Option, Result, refl, ap, ◌∙◌, arith, w32, to_z}
 use Rattle.std.proofs.lemmas.Bool.{lt-ltb, ltb-true}
 use Rattle.aggregates.specs.declared.kind.Kind.{Kind}
 use Rattle.tables.specs.declared.op.Op.{Op}
-use Rattle.tables.specs.declared.op.Op.TheVariants.{Number, Now, Past, Held, Window, Add, Subtract, Multiply, Less, Equal, Choose}
-use Rattle.tables.specs.Reading.{aggregate, byte, given, kind_of, word_of, operands, signed, test, windows_in, within, word}
+use Rattle.tables.specs.declared.op.Op.TheVariants.{Number, Now, Past, Held, Window}
+use Rattle.tables.specs.Fronts.{kept}
+use Rattle.tables.specs.Reading.{aggregate, byte, given, kind_of, word_of, operands, signed, test, within, word}
 
--- two readings refuse alike, and where the first gives a value it stands in a relation to the second
-abbrev pub Alike : {X Y : Type 0} → (X → Result Y ℕ → Type 0) → Result X ℕ → Result Y ℕ → Type 0
-Alike R (Ok x) y = R x y
-Alike R (Err e) y = y ≡ Err e
+-- goes on with what was read
+abbrev pub onward : {X Y : Type 0} → (X → List ℕ → Result Y ℕ) → Result (X × List ℕ) ℕ → Result Y ℕ
+onward k (Ok p) = k p.0 p.1
+onward k (Err e) = Err e
 
--- some bytes of a list are read, and others are left
-abbrev pub After : ℕ → List ℕ → List ℕ → Type 0
-After n xs rest = (drop n xs ≡ rest) × (length xs ≡ n + length rest)
+-- a reading that goes on is the same reading, and then what goes on
+module _ {X Y : Type 0} (k : X → List ℕ → Result Y ℕ) where
+  pub test_onward : (b : Bool) (e : ℕ) (f : List ℕ → Result Y ℕ) (g : List ℕ → Result (X × List ℕ) ℕ) (bs : List ℕ) → f bs ≡ onward k (g bs) → test b e f bs ≡ onward k (test b e g bs)
+  test_onward true e f g bs same = same
+  test_onward false e f g bs same = refl
 
-after_more : (n : ℕ) (xs : List ℕ) (b : ℕ) (rest : List ℕ) → After n xs (b ∷ rest) → After (suc n) xs rest
-after_more n xs b rest a =
-    let one : n + 1 ≡ suc n = omega arith in
-    let long = a.1 in
-    (ap (λ m. drop m xs) (sym one) ∙ sym (drop-drop 1 n xs) ∙ ap (drop 1) a.0, omega arith)
+  given_onward : (o : Option Kind) (f : Kind → List ℕ → Result Y ℕ) (g : Kind → List ℕ → Result (X × List ℕ) ℕ) (bs : List ℕ) → ((a : Kind) → f a bs ≡ onward k (g a bs)) → given o f bs ≡ onward k (given o g bs)
+  given_onward (Some a) f g bs same = same a
+  given_onward None f g bs same = refl
 
-pub alike_weaker : {X Y : Type 0} (R S : X → Result Y ℕ → Type 0) (x : Result X ℕ) (y : Result Y ℕ) → ((v : X) → R v y → S v y) → Alike R x y → Alike S x y
-alike_weaker R S (Ok v) y h a = h v a
-alike_weaker R S (Err e) y h a = a
+  pub byte_onward : (f : ℕ → List ℕ → Result Y ℕ) (g : ℕ → List ℕ → Result (X × List ℕ) ℕ) (bs : List ℕ) → ((b : ℕ) (rest : List ℕ) → f b rest ≡ onward k (g b rest)) → byte f bs ≡ onward k (byte g bs)
+  byte_onward f g [] same = refl
+  byte_onward f g (b ∷ rest) same = same b rest
 
--- what is known of the first reading
-pub alike_at : {X Y : Type 0} (R : X → Result Y ℕ → Type 0) (x : Result X ℕ) {r : Result X ℕ} (y : Result Y ℕ) → x ≡ r → Alike R r y → Alike R x y
-alike_at R x y is a = subst (λ v. Alike R v y) (sym is) a
+  pub word_onward : (f : ℕ → List ℕ → Result Y ℕ) (g : ℕ → List ℕ → Result (X × List ℕ) ℕ) (bs : List ℕ) → ((n : ℕ) (rest : List ℕ) → f n rest ≡ onward k (g n rest)) → word f bs ≡ onward k (word g bs)
+  word_onward f g [] same = refl
+  word_onward f g (a ∷ []) same = refl
+  word_onward f g (a ∷ b ∷ []) same = refl
+  word_onward f g (a ∷ b ∷ c ∷ []) same = refl
+  word_onward f g (a ∷ b ∷ c ∷ d ∷ rest) same = same (word_of a b c d) rest
 
-pub test_alike : {X Y : Type 0} (R : X → Result Y ℕ → Type 0) (b : Bool) (e : ℕ) (j : List ℕ → Result X ℕ) (k : List ℕ → Result Y ℕ) (r : List ℕ) → (b ≡ true → Alike R (j r) (k r)) → Alike R (test b e j r) (test b e k r)
-test_alike R true e j k r h = h refl
-test_alike R false e j k r h = refl
+-- an operation is read, and then what goes on
+module _ {Y : Type 0} (w : ℕ) (k : Op → List ℕ → Result Y ℕ) where
+  signed_onward : (o : ℤ → Op) (bs : List ℕ) → signed (λ v. k (o v)) bs ≡ onward k (signed (λ v. kept (o v)) bs)
+  signed_onward o bs = word_onward k (λ n. k (o (to_z w32 n))) (λ n. kept (o (to_z w32 n))) bs (λ n rest. refl)
 
-module _ {X Y : Type 0} (R : X → Result Y ℕ → Type 0) (xs : List ℕ) where
-  given_alike : (o : Option Kind) (j : Kind → List ℕ → Result X ℕ) (k : Kind → List ℕ → Result Y ℕ) (r : List ℕ) → ((a : Kind) → Alike R (j a r) (k a r)) → Alike R (given o j r) (given o k r)
-  given_alike (Some a) j k r h = h a
-  given_alike None j k r h = refl
-
-  byte_alike : (n : ℕ) (j : ℕ → List ℕ → Result X ℕ) (k : ℕ → List ℕ → Result Y ℕ) (r : List ℕ) → After n xs r
-      → ((b : ℕ) (s : List ℕ) → After (suc n) xs s → Alike R (j b s) (k b s)) → Alike R (byte j r) (byte k r)
-  byte_alike n j k [] a h = refl
-  byte_alike n j k (b ∷ s) a h = h b s (after_more n xs b s a)
-
-  word_alike : (n : ℕ) (j : ℕ → List ℕ → Result X ℕ) (k : ℕ → List ℕ → Result Y ℕ) (r : List ℕ) → After n xs r
-      → ((v : ℕ) (s : List ℕ) → After (suc (suc (suc (suc n)))) xs s → Alike R (j v s) (k v s)) → Alike R (word j r) (word k r)
-  word_alike n j k r a h =
-      byte_alike n _ _ r a (λ b0 r1 a1.
-      byte_alike (suc n) _ _ r1 a1 (λ b1 r2 a2.
-      byte_alike (suc (suc n)) _ _ r2 a2 (λ b2 r3 a3.
-      byte_alike (suc (suc (suc n))) _ _ r3 a3 (λ b3 r4 a4. h (word_of b0 b1 b2 b3) r4 a4))))
-
--- how an operation that was read lies at the front of the bytes
-pub record Front (w : ℕ) (xs : List ℕ) (o : Op) (rest : List ℕ) : Type 0 where
-  pub size : ℕ
-  pub some : 1 ≤ size
-  pub after : After size xs rest
-  pub few : windows_in o ≤ 8 - w
-
-module _ {X Y : Type 0} (R : X → Result Y ℕ → Type 0) (w : ℕ) (xs : List ℕ) (j : Op → List ℕ → Result X ℕ) (k : Op → List ℕ → Result Y ℕ)
-    (on : (o : Op) (rest : List ℕ) → Front w xs o rest → Alike R (j o rest) (k o rest)) where
-  read : (n : ℕ) (o : Op) (rest : List ℕ) → After n xs rest → 1 ≤ n → windows_in o ≤ 8 - w → Alike R (j o rest) (k o rest)
-  read n o rest a some few = on o rest (record { size = n; some = some; after = a; few = few })
-
-  -- an operation that ends with a signed number
-  read_signed : (n : ℕ) (o : ℤ → Op) (r : List ℕ) → After n xs r → ((v : ℤ) → windows_in (o v) ≤ 8 - w) → Alike R (signed (λ v. j (o v)) r) (signed (λ v. k (o v)) r)
-  read_signed n o r a few =
-      word_alike R xs n (λ v. j (o (to_z w32 v))) (λ v. k (o (to_z w32 v))) r a (λ v s b. read (suc (suc (suc (suc n)))) (o (to_z w32 v)) s b (omega arith) (few (to_z w32 v)))
-
-  pub operands_alike : (c : ℕ) (bs : List ℕ) → After 1 xs bs → Alike R (operands w c j bs) (operands w c k bs)
-  operands_alike zero bs a = refl
-  operands_alike (suc zero) bs a = read_signed 1 Number bs a (λ v. omega arith)
-  operands_alike (suc (suc zero)) bs a = byte_alike R xs 1 _ _ bs a (λ s r a1. read 2 (Now s) r a1 (omega arith) (omega arith))
-  operands_alike (suc (suc (suc zero))) bs a =
-      byte_alike R xs 1 _ _ bs a
-      (λ s r1 a1. byte_alike R xs 2 _ _ r1 a1
-      (λ b r2 a2. test_alike R (within 1 8 b) 4 _ _ r2
-      (λ _. read_signed 3 (Past s b) r2 a2 (λ v. omega arith))))
-  operands_alike (suc (suc (suc (suc zero)))) bs a =
-      byte_alike R xs 1 _ _ bs a
-      (λ s r1 a1. read_signed 2 (Held s) r1 a1 (λ v. omega arith))
-  operands_alike (suc (suc (suc (suc (suc zero))))) bs a =
-      test_alike R (ltb w 8) 4 _ _ bs
-      (λ room. byte_alike R xs 1 _ _ bs a
-      (λ s r1 a1. byte_alike R xs 2 _ _ r1 a1
-      (λ b r2 a2. given_alike R xs (kind_of b) _ _ r2
-      (λ v. word_alike R xs 3 (λ u. signed (λ d. j (Window s v u d))) (λ u. signed (λ d. k (Window s v u d))) r2 a2
-      (λ u r3 a3. read_signed 7 (Window s v u) r3 a3 (λ _. let few = ltb-true w 8 room in omega arith))))))
-  operands_alike (suc (suc (suc (suc (suc (suc zero)))))) bs a = read 1 Add bs a (omega arith) (omega arith)
-  operands_alike (suc (suc (suc (suc (suc (suc (suc zero))))))) bs a = read 1 Subtract bs a (omega arith) (omega arith)
-  operands_alike (suc (suc (suc (suc (suc (suc (suc (suc zero)))))))) bs a = read 1 Multiply bs a (omega arith) (omega arith)
-  operands_alike (suc (suc (suc (suc (suc (suc (suc (suc (suc zero))))))))) bs a = read 1 Less bs a (omega arith) (omega arith)
-  operands_alike (suc (suc (suc (suc (suc (suc (suc (suc (suc (suc zero)))))))))) bs a = read 1 Equal bs a (omega arith) (omega arith)
-  operands_alike (suc (suc (suc (suc (suc (suc (suc (suc (suc (suc (suc zero))))))))))) bs a = read 1 Choose bs a (omega arith) (omega arith)
-  operands_alike (suc (suc (suc (suc (suc (suc (suc (suc (suc (suc (suc (suc n)))))))))))) bs a = refl
+  pub operands_onward : (c : ℕ) (bs : List ℕ) → operands w c k bs ≡ onward k (operands w c kept bs)
+  operands_onward zero bs = refl
+  operands_onward (suc zero) bs = signed_onward Number bs
+  operands_onward (suc (suc zero)) bs = byte_onward k (λ s. k (Now s)) (λ s. kept (Now s)) bs (λ s rest. refl)
+  operands_onward (suc (suc (suc zero))) bs =
+      byte_onward k _ _ bs
+      (λ s r1. byte_onward k _ _ r1
+      (λ b r2. test_onward k (within 1 8 b) 4 (signed (λ d. k (Past s b d))) (signed (λ d. kept (Past s b d))) r2 (signed_onward (Past s b) r2)))
+  operands_onward (suc (suc (suc (suc zero)))) bs = byte_onward k (λ s. signed (λ d. k (Held s d))) (λ s. signed (λ d. kept (Held s d))) bs (λ s. signed_onward (Held s))
+  operands_onward (suc (suc (suc (suc (suc zero))))) bs =
+      test_onward k (ltb w 8) 4 _ _ bs
+      (byte_onward k _ _ bs
+      (λ s r1. byte_onward k _ _ r1
+      (λ n r2. given_onward k (kind_of n) _ _ r2
+      (λ a. word_onward k (λ u. signed (λ d. k (Window s a u d))) (λ u. signed (λ d. kept (Window s a u d))) r2 (λ u. signed_onward (Window s a u))))))
+  operands_onward (suc (suc (suc (suc (suc (suc zero)))))) bs = refl
+  operands_onward (suc (suc (suc (suc (suc (suc (suc zero))))))) bs = refl
+  operands_onward (suc (suc (suc (suc (suc (suc (suc (suc zero)))))))) bs = refl
+  operands_onward (suc (suc (suc (suc (suc (suc (suc (suc (suc zero))))))))) bs = refl
+  operands_onward (suc (suc (suc (suc (suc (suc (suc (suc (suc (suc zero)))))))))) bs = refl
+  operands_onward (suc (suc (suc (suc (suc (suc (suc (suc (suc (suc (suc zero))))))))))) bs = refl
+  operands_onward (suc (suc (suc (suc (suc (suc (suc (suc (suc (suc (suc (suc n)))))))))))) bs = refl
 
 pub never : {X Y : Type 0} {e : ℕ} {x : X} → Err e ≡ Ok x → Y
 never p = let z : ◌≡◌ {A = ℕ} 0 1 = cc in absurd (omega arith)

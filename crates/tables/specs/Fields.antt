@@ -1,18 +1,15 @@
 -- What the fields of a table say, where their parts still lie in its bytes.
-use Rattle.std.specs.Prelude.{ℕ, Bool, true, ◌&&◌, List, [], ◌∷◌, Ok, Err, Result}
+use Rattle.std.specs.Prelude.{ℕ, List, [], Ok, Err, Result}
+use Rattle.std.specs.Borrow.{Bor}
 use Rattle.tables.specs.declared.field.Field.{Field}
 use Rattle.tables.specs.declared.field.Field.TheVariants.{Life, Input, Output, Trigger}
 use Rattle.tables.specs.declared.flaw.Flaw.{Flaw}
 use Rattle.tables.specs.declared.op.Op.{Op}
 use Rattle.tables.specs.Flaws.{number}
+use Rattle.tables.specs.Fronts.{kept}
 use Rattle.tables.specs.Kinds.{Said, input, life, output, trigger}
 use Rattle.tables.specs.Programs.{all_ops}
-use Rattle.tables.specs.Reading.{ranged, some, text, till, within}
-
--- each byte is from low to 126
-abbrev pub each : ℕ → List ℕ → Bool
-each low [] = true
-each low (b ∷ bs) = within low 126 b && each low bs
+use Rattle.tables.specs.Reading.{ranged, some, text, till}
 
 -- a text, of which only that it stands there is kept
 abbrev pub stands : List ℕ → Result (Unit {0}) ℕ
@@ -22,9 +19,14 @@ stands s = Ok tt
 abbrev pub text_to_end : ℕ → ℕ → List ℕ → Result (Unit {0}) ℕ
 text_to_end low most = some (till low most stands)
 
--- the length of an output's name, where the name stands after it
-abbrev pub name_size : List ℕ → Result ℕ ℕ
-name_size = ranged 1 16 (λ n. text 33 n (λ s rest. Ok n))
+-- an output's name, which stands after its length, and the bytes after it
+abbrev pub named : List ℕ → Result (List ℕ × List ℕ) ℕ
+named = ranged 1 16 (λ n. text 33 n kept)
+
+-- a text and the bytes after it, and a refusal by its number
+abbrev pub parted : Result (Bor (List ℕ) × Bor (List ℕ)) Flaw → Result (List ℕ × List ℕ) ℕ
+parted (Ok p) = Ok (p.0.now, p.1.now)
+parted (Err f) = Err (number f)
 
 -- none where they are refused
 abbrev pub some_ops : Result (List Op) ℕ → List Op

@@ -1,6 +1,7 @@
 pub mod Asking
 pub mod Fields
 pub mod Flaws
+pub mod Fronts
 pub mod Kinds
 pub mod Layers
 pub mod Plans
@@ -9,5 +10,6 @@ pub mod Reading
 pub mod Rules
 pub mod Sound
 pub mod Tables
+pub mod Tags
 pub mod Worked
 pub mod WorkedTables

@@ -1,19 +1,16 @@
 -- The operations of an output, one after another, and as a program.
-use Rattle.std.specs.Prelude.{ℕ, ◌+◌, ◌-◌, cond, ◌&&◌, List, [], ◌∷◌, length, Some, None, Ok, Err, Option, Result, nat_le, nat_lt}
+use Rattle.std.specs.Prelude.{ℕ, ◌+◌, ◌-◌, cond, ◌&&◌, List, [], ◌∷◌, Some, None, Ok, Err, Option, Result, nat_le, nat_lt}
 use Rattle.tables.specs.declared.flaw.Flaw.{Flaw}
 use Rattle.tables.specs.declared.op.Op.{Op}
 use Rattle.tables.specs.declared.op.Program.{Program}
 use Rattle.tables.specs.Flaws.{number}
+use Rattle.tables.specs.Fronts.{kept}
 use Rattle.tables.specs.Reading.{operands, ops}
 
--- an operation, and how many of so many bytes it took where the others are left
-abbrev pub sized : ℕ → Op → List ℕ → Result (Op × ℕ) ℕ
-sized n o rest = Ok (o, n - length rest)
-
--- the first operation of some bytes and its size, with w windows before it
-abbrev pub first_op : ℕ → List ℕ → Result (Op × ℕ) ℕ
+-- the first operation of some bytes, with w windows before it
+abbrev pub first_op : ℕ → List ℕ → Result (Op × List ℕ) ℕ
 first_op w [] = Err 3
-first_op w (c ∷ bs) = operands w c (sized (length (c ∷ bs))) bs
+first_op w (c ∷ bs) = operands w c kept bs
 
 -- all operations of a field's end, with w windows before them
 abbrev pub all_ops : ℕ → List ℕ → Result (List Op) ℕ

@@ -1,14 +1,80 @@
 // The fields of a table, each with its parts still in the table's bytes.
-ghost use Rattle.std.specs.Prelude.{◌≡◌, ◌<◌, true, length, take, IfOk};
+ghost use Rattle.std.specs.Prelude.{◌≡◌, ◌++◌, true, take, codes, Some};
+ghost use Rattle.std.specs.Fmt.{decimal};
+ghost use Rattle.std.specs.List.{list_all};
+ghost use Rattle.tables.specs.declared.flaw.Flaw.TheVariants.{Order};
 ghost use Rattle.tables.specs.Fields as fields;
 ghost use Rattle.tables.specs.Flaws.{numbered};
 ghost use Rattle.tables.specs.Reading as reading;
+ghost use Rattle.tables.specs.Tags.{Decodes, tag_number};
 ghost use Rattle.tables.specs.Worked as cases;
 ghost use Rattle.tables.specs.WorkedTables as wholes;
 
 use crate::flaw::Flaw;
+use crate::front::word;
 use crate::op::{Pace, Program};
-use crate::word;
+use std::error::Error;
+use std::fmt;
+
+// What a field says, by the byte that stands before it.
+#[derive(Clone, Copy, PartialEq, Eq, Debug)]
+pub enum Tag {
+    Life = 1,
+    Input = 2,
+    // An output that is worked out with readings.
+    Event = 3,
+    // An output that is worked out at each multiple of a period.
+    Periodic = 4,
+    Trigger = 5,
+}
+
+impl Tag {
+    // The byte that stands for the tag.
+    pub fn number(self) -> u8
+        ensures { result ≡ tag_number self }
+    {
+        self as u8
+    }
+}
+
+// A byte that no tag has.
+#[derive(Clone, Copy, PartialEq, Eq, Debug)]
+pub struct UnknownTag(pub u8);
+
+impl TryFrom<u8> for Tag {
+    type Error = UnknownTag;
+
+    ghost try_from_gives = { Decodes };
+
+    fn try_from(number: u8) -> Result<Tag, UnknownTag> {
+        match number {
+            1 => Ok(Tag::Life),
+            2 => Ok(Tag::Input),
+            3 => Ok(Tag::Event),
+            4 => Ok(Tag::Periodic),
+            5 => Ok(Tag::Trigger),
+            _ => Err(UnknownTag(number)),
+        }
+    }
+}
+
+impl fmt::Display for UnknownTag {
+    ghost output = { λ unknown. Some (codes "no field has the tag " ++ decimal unknown.0) };
+
+    fn fmt<W: fmt::Write>(&self, f: &mut fmt::Formatter<W>) -> fmt::Result {
+        write!(f, "no field has the tag {}", self.0)
+    }
+}
+
+impl Error for UnknownTag {}
+
+impl From<UnknownTag> for Flaw {
+    ghost from_gives = { λ _ flaw. flaw ≡ Order };
+
+    fn from(_unknown: UnknownTag) -> Flaw {
+        Flaw::Order
+    }
+}
 
 #[derive(Clone, Copy)]
 pub enum Field<'a> {
@@ -31,18 +97,9 @@ pub enum Field<'a> {
 
 // Whether the first bytes, at most so many, are from low to 126.
 fn in_range(bytes: &[u8], low: u8, most: usize) -> bool
-    ensures { result ≡ fields.each low (take most bytes.now) }
+    ensures { result ≡ list_all (reading.within low 126) (take most bytes.now) }
 {
-    for (i, b) in bytes.iter().enumerate() {
-        if i >= most {
-            return true;
-        }
-        let v = *b;
-        if v < low || v > 126 {
-            return false;
-        }
-    }
-    true
+    bytes.iter().take(most).all(|b| (low..=126).contains(b))
 }
 
 // A text to the field's end, of at most so many bytes.
@@ -61,66 +118,45 @@ fn text_to_end(bytes: &[u8], low: u8, most: usize) -> Result<(), Flaw>
     Ok(())
 }
 
-fn life<'a>(bytes: &'a [u8]) -> Result<Field<'a>, Flaw>
+fn life(bytes: &[u8]) -> Result<Field<'_>, Flaw>
     ensures { fields.said result ≡ reading.content 1 0 bytes.now }
 {
-    if bytes.len() < 4 {
-        return Err(Flaw::Extent);
-    }
-    let n = word(bytes, 0);
-    if n < 1 || n > 2_000_000_000 {
+    let (life, rest) = word(bytes)?;
+    if !(1..=2_000_000_000).contains(&life) {
         return Err(Flaw::Range);
     }
-    if bytes.len() > 4 {
+    if !rest.is_empty() {
         return Err(Flaw::Extent);
     }
-    Ok(Field::Life(n))
+    Ok(Field::Life(life))
 }
 
-// Whether the name of an input stands there.
-fn input_name(bytes: &[u8]) -> Result<(), Flaw>
-    ensures { numbered result ≡ fields.text_to_end 33 16 bytes.now }
-{
-    text_to_end(bytes, 33, 16)
-}
-
-fn input<'a>(bytes: &'a [u8]) -> Result<Field<'a>, Flaw>
+fn input(bytes: &[u8]) -> Result<Field<'_>, Flaw>
     ensures { fields.said result ≡ reading.content 2 0 bytes.now }
 {
-    input_name(bytes)?;
+    text_to_end(bytes, 33, 16)?;
     Ok(Field::Input(bytes))
 }
 
-// The length of an output's name.
-fn name_size(bytes: &[u8]) -> Result<usize, Flaw>
-    ensures value { numbered result ≡ fields.name_size bytes.now }
-    ensures within { IfOk result (λ n. n < length bytes.now) }
+// An output's name, by the length before it, and the operations after it.
+fn name(bytes: &[u8]) -> Result<(&[u8], &[u8]), Flaw>
+    ensures { fields.parted result ≡ fields.named bytes.now }
 {
-    if bytes.is_empty() {
+    let [size, rest @ ..] = bytes else {
         return Err(Flaw::Extent);
-    }
-    let size = bytes[0] as usize;
-    if size < 1 || size > 16 {
+    };
+    let size = *size as usize;
+    if !(1..=16).contains(&size) || !in_range(rest, 33, size) {
         return Err(Flaw::Range);
     }
-    if !in_range(&bytes[1..], 33, size) {
-        return Err(Flaw::Range);
-    }
-    if bytes.len() - 1 < size {
-        return Err(Flaw::Extent);
-    }
-    Ok(size)
+    rest.split_at_checked(size).ok_or(Flaw::Extent)
 }
 
-// An output from its operations on.
-fn with_operations<'a>(
-    pace: Pace,
-    name: &'a [u8],
-    operations: &'a [u8],
-    windows: u8,
-) -> Result<Field<'a>, Flaw>
-    ensures { fields.said result ≡ reading.with_ops pace windows name.now operations.now }
+// An output after its period.
+fn output(pace: Pace, bytes: &[u8], windows: u8) -> Result<Field<'_>, Flaw>
+    ensures { fields.said result ≡ reading.outputs pace windows bytes.now }
 {
+    let (name, operations) = name(bytes)?;
     if operations.is_empty() {
         return Err(Flaw::Extent);
     }
@@ -135,60 +171,40 @@ fn with_operations<'a>(
     })
 }
 
-// An output after its period.
-fn output<'a>(pace: Pace, bytes: &'a [u8], windows: u8) -> Result<Field<'a>, Flaw>
-    ensures { fields.said result ≡ reading.outputs pace windows bytes.now }
-{
-    let size = name_size(bytes)?;
-    with_operations(pace, &bytes[1..1 + size], &bytes[1 + size..], windows)
-}
-
-fn periodic<'a>(bytes: &'a [u8], windows: u8) -> Result<Field<'a>, Flaw>
+fn periodic(bytes: &[u8], windows: u8) -> Result<Field<'_>, Flaw>
     ensures { fields.said result ≡ reading.content 4 windows bytes.now }
 {
-    if bytes.len() < 4 {
-        return Err(Flaw::Extent);
-    }
-    let period = word(bytes, 0);
-    if period < 1 || period > 86_400_000 {
+    let (period, rest) = word(bytes)?;
+    if !(1..=86_400_000).contains(&period) {
         return Err(Flaw::Range);
     }
-    output(Pace::Every(period), &bytes[4..], windows)
+    output(Pace::Every(period), rest, windows)
 }
 
-// Whether the message of a trigger stands there.
-fn trigger_message(bytes: &[u8]) -> Result<(), Flaw>
-    ensures { numbered result ≡ fields.text_to_end 32 32 bytes.now }
-{
-    text_to_end(bytes, 32, 32)
-}
-
-fn trigger<'a>(bytes: &'a [u8]) -> Result<Field<'a>, Flaw>
+fn trigger(bytes: &[u8]) -> Result<Field<'_>, Flaw>
     ensures { fields.said result ≡ reading.content 5 0 bytes.now }
 {
-    if bytes.is_empty() {
+    let [stream, message @ ..] = bytes else {
         return Err(Flaw::Extent);
-    }
-    let message = &bytes[1..];
-    trigger_message(message)?;
+    };
+    text_to_end(message, 32, 32)?;
     Ok(Field::Trigger {
-        stream: bytes[0],
+        stream: *stream,
         message,
     })
 }
 
 // The field that a content says under a tag, where so many windows stand before it in the table; from eight on no
 // other window may stand.
-pub fn read_field<'a>(tag: u8, content: &'a [u8], windows: u8) -> Result<Field<'a>, Flaw>
+pub fn read_field(tag: u8, content: &[u8], windows: u8) -> Result<Field<'_>, Flaw>
     ensures { fields.said result ≡ reading.content tag windows content.now }
 {
-    match tag {
-        1 => life(content),
-        2 => input(content),
-        3 => output(Pace::Event, content, windows),
-        4 => periodic(content, windows),
-        5 => trigger(content),
-        _ => Err(Flaw::Order),
+    match Tag::try_from(tag)? {
+        Tag::Life => life(content),
+        Tag::Input => input(content),
+        Tag::Event => output(Pace::Event, content, windows),
+        Tag::Periodic => periodic(content, windows),
+        Tag::Trigger => trigger(content),
     }
 }
 

@@ -54,7 +54,7 @@ pub struct Program {
 }
 
 // When an output is worked out: with readings, or at each multiple of a period.
-#[derive(Clone, Copy)]
+#[derive(Clone, Copy, PartialEq, Eq, Debug)]
 pub enum Pace {
     Event,
     Every(u32),

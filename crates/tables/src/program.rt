@@ -1,130 +1,103 @@
 // The operations of an output, read from bytes.
-ghost use Rattle.std.specs.Prelude.{◌≡◌, ◌+◌, ◌-◌, ◌<◌, ◌≤◌, length, slice_index};
-ghost use Rattle.tables.specs.Flaws.{numbered};
+ghost use Rattle.std.specs.Prelude.{◌≡◌};
+ghost use Rattle.tables.specs.Fronts.{front, kept};
 ghost use Rattle.tables.specs.Programs as programs;
 ghost use Rattle.tables.specs.Reading as reading;
 
 use crate::flaw::Flaw;
+use crate::front::{signed, word};
 use crate::op::{Op, Program};
-use crate::{signed, word};
 use aggregates::kind::Kind;
 use fixed::FixedVec;
 
-// The aggregate that has the number.
-fn kind(n: u8) -> Option<Kind>
-    ensures { result ≡ reading.kind_of n }
+fn number(bytes: &[u8]) -> Result<(Op, &[u8]), Flaw>
+    ensures { front result ≡ reading.operands 0 1 kept bytes.now }
 {
-    Kind::from_number(n)
+    let (value, rest) = signed(bytes)?;
+    Ok((Op::Number(value), rest))
 }
 
-fn number(bytes: &[u8], windows: u8) -> Result<(Op, usize), Flaw>
-    requires { (0 < length bytes.now) × (slice_index bytes.now 0 ≡ 1) }
-    ensures { numbered result ≡ programs.first_op windows bytes.now }
+fn present(bytes: &[u8]) -> Result<(Op, &[u8]), Flaw>
+    ensures { front result ≡ reading.operands 0 2 kept bytes.now }
 {
-    if bytes.len() < 5 {
+    let [stream, rest @ ..] = bytes else {
         return Err(Flaw::Extent);
-    }
-    Ok((Op::Number(signed(bytes, 1)), 5))
+    };
+    Ok((Op::Now { stream: *stream }, rest))
 }
 
-fn present(bytes: &[u8], windows: u8) -> Result<(Op, usize), Flaw>
-    requires { (0 < length bytes.now) × (slice_index bytes.now 0 ≡ 2) }
-    ensures { numbered result ≡ programs.first_op windows bytes.now }
+fn past(bytes: &[u8]) -> Result<(Op, &[u8]), Flaw>
+    ensures { front result ≡ reading.operands 0 3 kept bytes.now }
 {
-    if bytes.len() < 2 {
+    let [stream, back, rest @ ..] = bytes else {
         return Err(Flaw::Extent);
-    }
-    Ok((Op::Now { stream: bytes[1] }, 2))
-}
-
-fn past(bytes: &[u8], windows: u8) -> Result<(Op, usize), Flaw>
-    requires { (0 < length bytes.now) × (slice_index bytes.now 0 ≡ 3) }
-    ensures { numbered result ≡ programs.first_op windows bytes.now }
-{
-    if bytes.len() < 3 {
-        return Err(Flaw::Extent);
-    }
-    let back = bytes[2];
-    if back < 1 || back > 8 {
+    };
+    if !(1..=8).contains(back) {
         return Err(Flaw::Range);
     }
-    if bytes.len() < 7 {
-        return Err(Flaw::Extent);
-    }
-    let default = signed(bytes, 3);
-    Ok((
-        Op::Past {
-            stream: bytes[1],
-            back,
-            default,
-        },
-        7,
-    ))
+    let (default, rest) = signed(rest)?;
+    let past = Op::Past {
+        stream: *stream,
+        back: *back,
+        default,
+    };
+    Ok((past, rest))
 }
 
-fn held(bytes: &[u8], windows: u8) -> Result<(Op, usize), Flaw>
-    requires { (0 < length bytes.now) × (slice_index bytes.now 0 ≡ 4) }
-    ensures { numbered result ≡ programs.first_op windows bytes.now }
+fn held(bytes: &[u8]) -> Result<(Op, &[u8]), Flaw>
+    ensures { front result ≡ reading.operands 0 4 kept bytes.now }
 {
-    if bytes.len() < 6 {
+    let [stream, rest @ ..] = bytes else {
         return Err(Flaw::Extent);
-    }
-    let default = signed(bytes, 2);
-    Ok((
-        Op::Held {
-            stream: bytes[1],
-            default,
-        },
-        6,
-    ))
+    };
+    let (default, rest) = signed(rest)?;
+    let held = Op::Held {
+        stream: *stream,
+        default,
+    };
+    Ok((held, rest))
 }
 
-fn window(bytes: &[u8], windows: u8) -> Result<(Op, usize), Flaw>
-    requires { (0 < length bytes.now) × (slice_index bytes.now 0 ≡ 5) }
-    ensures { numbered result ≡ programs.first_op windows bytes.now }
+fn window(bytes: &[u8], windows: u8) -> Result<(Op, &[u8]), Flaw>
+    ensures { front result ≡ reading.operands windows 5 kept bytes.now }
 {
     if windows >= 8 {
         return Err(Flaw::Range);
     }
-    if bytes.len() < 3 {
+    let [stream, kind, rest @ ..] = bytes else {
         return Err(Flaw::Extent);
-    }
-    let Some(kind) = kind(bytes[2]) else {
-        return Err(Flaw::Range);
     };
-    if bytes.len() < 11 {
-        return Err(Flaw::Extent);
-    }
-    let duration = word(bytes, 3);
-    let default = signed(bytes, 7);
-    Ok((
-        Op::Window {
-            stream: bytes[1],
-            kind,
-            duration,
-            default,
-        },
-        11,
-    ))
+    let kind = Kind::from_number(*kind).ok_or(Flaw::Range)?;
+    let (duration, rest) = word(rest)?;
+    let (default, rest) = signed(rest)?;
+    let window = Op::Window {
+        stream: *stream,
+        kind,
+        duration,
+        default,
+    };
+    Ok((window, rest))
 }
 
-// The first operation and how many bytes it takes.
-fn first(bytes: &[u8], windows: u8) -> Result<(Op, usize), Flaw>
-    requires { 0 < length bytes.now }
-    ensures { numbered result ≡ programs.first_op windows bytes.now }
+// The first operation.
+fn first(bytes: &[u8], windows: u8) -> Result<(Op, &[u8]), Flaw>
+    ensures { front result ≡ programs.first_op windows bytes.now }
 {
-    match bytes[0] {
-        1 => number(bytes, windows),
-        2 => present(bytes, windows),
-        3 => past(bytes, windows),
-        4 => held(bytes, windows),
-        5 => window(bytes, windows),
-        6 => Ok((Op::Add, 1)),
-        7 => Ok((Op::Subtract, 1)),
-        8 => Ok((Op::Multiply, 1)),
-        9 => Ok((Op::Less, 1)),
-        10 => Ok((Op::Equal, 1)),
-        11 => Ok((Op::Choose, 1)),
+    let [code, rest @ ..] = bytes else {
+        return Err(Flaw::Extent);
+    };
+    match code {
+        1 => number(rest),
+        2 => present(rest),
+        3 => past(rest),
+        4 => held(rest),
+        5 => window(rest, windows),
+        6 => Ok((Op::Add, rest)),
+        7 => Ok((Op::Subtract, rest)),
+        8 => Ok((Op::Multiply, rest)),
+        9 => Ok((Op::Less, rest)),
+        10 => Ok((Op::Equal, rest)),
+        11 => Ok((Op::Choose, rest)),
         _ => Err(Flaw::Range),
     }
 }
@@ -157,10 +130,11 @@ impl Op {
 fn height_after(height: u8, taken: u8) -> Option<u8>
     ensures { result ≡ programs.height_after height taken }
 {
-    if height < taken || height - taken >= 8 {
+    let left = height.checked_sub(taken)?;
+    if left >= 8 {
         return None;
     }
-    Some(height - taken + 1)
+    Some(left + 1)
 }
 
 impl Program {
@@ -176,10 +150,10 @@ impl Program {
             if ops.len() == 16 {
                 return Err(Flaw::Extent);
             }
-            let (op, size) = first(rest, windows)?;
+            let (op, left) = first(rest, windows)?;
             windows += op.windows();
             let _ = ops.push(op);
-            rest = &rest[size..];
+            rest = left;
         }
         Ok(Program { ops })
     }

@@ -1,14 +1,13 @@
-use Rattle.std.proofs.Common.{Err, ap, ◌∙◌, rules}
+use Rattle.std.proofs.Common.{refl, rules}
+use Rattle.std.proofs.lemmas.List.{take_rest}
 use Rattle.std.proofs.lemmas.Result.{err_from_is_err_and}
-use Rattle.tables.specs.Fields.{said}
-use Rattle.tables.specs.Flaws.{number}
-use Rattle.tables.proofs.Contents.{trigger_on, trigger_stops}
+use Rattle.tables.proofs.Contents.{trigger_passed}
 use Rattle.tables.proofs.field.trigger.Goals as goal
 
-pub returns-in_err-trigger_message : goal.returns-in_err-trigger_message
-returns-in_err-trigger_message c =
+pub returns-in_err-text_to_end : goal.returns-in_err-text_to_end
+returns-in_err-text_to_end c =
     let p = err_from_is_err_and c.from_residual.result c.from_residual.ensures.1 in
-    ap said p.1 ∙ ap (λ f. Err (number f)) p.2 ∙ trigger_stops c.args.bytes.now (search rules) _ c.in_err-trigger_message.ensures
+    rw (p.1, p.2, trigger_passed c.args.bytes.now _ (search rules) (take_rest c.args.bytes.now 1), ← c.in_err-text_to_end.ensures) refl
 
 pub returns : goal.returns
-returns c = trigger_on c.args.bytes.now (search rules) c.in_ok-trigger_message.ensures
+returns c = rw (trigger_passed c.args.bytes.now _ (search rules) (take_rest c.args.bytes.now 1), ← c.in_ok-text_to_end.ensures) refl

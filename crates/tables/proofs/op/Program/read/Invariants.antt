@@ -1,4 +1,4 @@
-use Rattle.std.proofs.Common.{length}
+use Rattle.std.proofs.Common.{◌-◌, length}
 use Rattle.tables.proofs.Operations.{Working}
 use Rattle.tables.proofs.op.Program.read.Given as goal
 
@@ -6,4 +6,4 @@ abbrev pub invariant-loop-rest : goal.invariant-loop-rest
 invariant-loop-rest l = Working l.fn.bytes l.fn.windows l.ops l.rest l.windows
 
 abbrev pub decreases-loop-rest : goal.decreases-loop-rest
-decreases-loop-rest l = length l.rest
+decreases-loop-rest l = 16 - length l.ops
