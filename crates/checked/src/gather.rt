@@ -11,7 +11,7 @@ use crate::parts::Parts;
 use crate::text::{Message, Name};
 use fixed::FixedVec;
 use frames::Frame;
-use tables::field::{Field, read_field};
+use tables::field::{Field, Tag, read_field};
 use tables::flaw::{Flaw, Refused};
 use tables::op::Program;
 
@@ -58,15 +58,17 @@ impl Gathered {
     fn admits(&self, tag: u8) -> bool
         ensures { result ≡ admits (gathering.stood (gathering.making self.now)) tag }
     {
+        let Ok(tag) = Tag::try_from(tag) else {
+            return false;
+        };
         let inputs = self.parts.inputs.len();
         let outputs = self.parts.outputs.len();
         let triggers = self.parts.triggers.len();
         match tag {
-            1 => self.lives < 1,
-            2 => self.lives > 0 && outputs < 1 && triggers < 1 && inputs < 8,
-            3 | 4 => inputs > 0 && triggers < 1 && outputs < 16,
-            5 => self.lives > 0 && triggers < 8,
-            _ => false,
+            Tag::Life => self.lives < 1,
+            Tag::Input => self.lives > 0 && outputs < 1 && triggers < 1 && inputs < 8,
+            Tag::Event | Tag::Periodic => inputs > 0 && triggers < 1 && outputs < 16,
+            Tag::Trigger => self.lives > 0 && triggers < 8,
         }
     }
 

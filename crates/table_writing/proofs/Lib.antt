@@ -1,3 +1,4 @@
 pub mod Backs
+pub mod Heads
 pub mod Joins
-pub mod Puts
+pub mod Writes

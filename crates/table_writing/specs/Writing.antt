@@ -1,37 +1,44 @@
--- Bytes written into a buffer.
-use Rattle.std.specs.Prelude.{◌≡◌, ℕ, ◌+◌, cond, List, ◌∷◌, ◌++◌, length, take, drop, Ok, Err, Result, nat_le}
-use Rattle.std.specs.List.{flat_map}
+-- Bytes written into a lent buffer.
+use Rattle.std.specs.Prelude.{◌≡◌, ℕ, ◌+◌, ◌-◌, cond, List, ◌∷◌, ◌++◌, length, take, drop, Ok, Err, Result, nat_le}
+use Rattle.frames.specs.Frames.{low_first}
+use Rattle.tables.specs.declared.field.Tag.{Tag}
 use Rattle.tables.specs.declared.flaw.Refused.{Refused}
-use Rattle.tables.specs.Kinds.{input, output, trigger}
-use Rattle.tables.specs.Tables.{Refusal, field_bytes, read, refuse}
-use Rattle.checked.specs.declared.parts.Parts.{Parts}
+use Rattle.tables.specs.Tables.{Refusal, read, refuse}
+use Rattle.tables.specs.Tags.{tag_number}
 use Rattle.checked.specs.declared.table.Table.{Table}
 use Rattle.checked.specs.Checking as checking
 use Rattle.checked.specs.Gathering.{refusal_of}
-use Rattle.checked.specs.Views.{name_of, output_of, trigger_of}
+use Rattle.table_writing.specs.declared.writer.Writer.{Writer}
 
--- a buffer with some bytes from a place on, and the rest as before
-abbrev pub put_at : (at : ℕ) → List ℕ → List ℕ → List ℕ
-put_at at bytes buffer = take at buffer ++ (bytes ++ drop (at + length bytes) buffer)
+-- the bytes that are written in a buffer, and those behind them
+pub record Halves : Type 0 where
+  pub done : List ℕ
+  pub rest : List ℕ
 
--- bytes were put into a buffer from a place on, and they end there
-pub record Put (at : ℕ) (bytes before : List ℕ) (end : ℕ) (after : List ℕ) : Type 0 where
-  pub ends : end ≡ at + length bytes
-  pub now : after ≡ put_at at bytes before
+abbrev pub halves : (at : ℕ) → (buffer : List ℕ) → Halves
+halves at buffer = record { done = take at buffer; rest = drop at buffer }
 
--- the length of a text in one byte, and the text
-abbrev pub named : List ℕ → List ℕ
-named text = length text ∷ text
+-- with bytes behind the others
+abbrev pub with_more : List ℕ → Halves → Halves
+with_more bytes h = record { done = h.done ++ bytes; rest = drop (length bytes) h.rest }
 
--- the bytes of the fields of inputs, of outputs and of triggers
-abbrev pub inputs_bytes : Parts → List ℕ
-inputs_bytes p = flat_map (λ n. field_bytes (input (name_of n))) (take p.input_count p.inputs)
+-- with a header over the three bytes at a place
+abbrev pub headed : (start : ℕ) → Tag → Halves → Halves
+headed start tag h = record { done = take start h.done ++ ((tag_number tag ∷ low_first 2 (length h.done - (start + 3))) ++ drop (start + 3) h.done); rest = h.rest }
 
-abbrev pub outputs_bytes : Parts → List ℕ
-outputs_bytes p = flat_map (λ o. field_bytes (output (output_of o))) (take p.output_count p.outputs)
+-- bytes were written behind the others
+pub record Wrote (bytes : List ℕ) (before now : Writer) : Type 0 where
+  pub put : halves now.at now.buffer.now ≡ with_more bytes (halves before.at before.buffer.now)
+  pub long : length now.buffer.now ≡ length before.buffer.now
+  pub ends : now.at ≡ before.at + length bytes
+  pub same : now.buffer.ghost_name ≡ before.buffer.ghost_name
 
-abbrev pub triggers_bytes : Parts → List ℕ
-triggers_bytes p = flat_map (λ g. field_bytes (trigger (trigger_of g))) (take p.trigger_count p.triggers)
+-- a header was written over the three bytes at a place
+pub record Headed (start : ℕ) (tag : Tag) (before now : Writer) : Type 0 where
+  pub put : halves now.at now.buffer.now ≡ headed start tag (halves before.at before.buffer.now)
+  pub long : length now.buffer.now ≡ length before.buffer.now
+  pub ends : now.at ≡ before.at
+  pub same : now.buffer.ghost_name ≡ before.buffer.ghost_name
 
 -- the answer to writing, and the buffer then: the length, and the bytes at the buffer's start; or 8 at place 0, and nothing is written
 abbrev pub put : List ℕ → List ℕ → Result ℕ Refusal × List ℕ

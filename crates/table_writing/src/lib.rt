@@ -1,7 +1,7 @@
 // Writing checked tables.
 #![tactic(auto)]
 
-mod buffer;
-mod encoded;
 mod fields;
+mod ops;
 pub mod write;
+mod writer;

@@ -1,34 +1,38 @@
-use Rattle.std.proofs.Common.{◌++◌, sym, arith}
-use Rattle.tables.specs.Kinds.{life}
-use Rattle.tables.specs.Tables.{field_bytes}
-use Rattle.table_writing.specs.Writing.{inputs_bytes, outputs_bytes, triggers_bytes}
-use Rattle.table_writing.proofs.Joins.{write_joined, written_long}
-use Rattle.table_writing.proofs.Puts.{put_same, put_then}
+use Rattle.std.proofs.Common.{[], map, subst}
+use Rattle.tables.specs.Kinds.{input, output, trigger}
+use Rattle.tables.specs.Tables.{fields_bytes, write}
+use Rattle.checked.specs.Views.{output_of, said, trigger_of}
+use Rattle.table_writing.specs.Writing.{Wrote}
+use Rattle.table_writing.proofs.Joins.{after_inputs, after_life, after_outputs, after_triggers, inputs_bytes, outputs_bytes, triggers_bytes}
+use Rattle.table_writing.proofs.Writes.{writing_room}
 use Rattle.table_writing.proofs.write.put_parts.Goals as goal
 
-pub put_inputs-outputs-requires : goal.put_inputs-outputs-requires
-put_inputs-outputs-requires c =
+pub put_fields-requires : goal.put_fields-requires
+put_fields-requires c =
     let p = c.args.parts.now in
-    omega (arith, c.requires, written_long p, c.put_life-inputs.ensures.ends, c.put_life-inputs.auto.buffer)
+    let a = c.args.out.now in
+    rw c.as_slice.ensures.values (writing_room a (write (said p)) c.put_field.new.out (inputs_bytes p) _ c.requires (after_life p a _ c.put_field.ensures))
 
-pub put_outputs-triggers-requires : goal.put_outputs-triggers-requires
-put_outputs-triggers-requires c =
+pub put_fields-requires-2 : goal.put_fields-requires-2
+put_fields-requires-2 c =
     let p = c.args.parts.now in
-    omega (arith, c.requires, written_long p, c.put_life-inputs.ensures.ends, c.put_inputs-outputs.ensures.ends, c.put_life-inputs.auto.buffer, c.put_inputs-outputs.auto.buffer)
+    let a = c.args.out.now in
+    let inputs : Wrote (inputs_bytes p) c.put_field.new.out c.put_fields.new.out = subst (λ xs. Wrote (fields_bytes (map input xs)) c.put_field.new.out c.put_fields.new.out) c.as_slice.ensures.values c.put_fields.ensures in
+    rw c.as_slice-2.ensures.values (writing_room a (write (said p)) c.put_fields.new.out (outputs_bytes p) _ c.requires (after_inputs p a _ c.put_field.ensures _ inputs))
 
-pub put_triggers-requires : goal.put_triggers-requires
-put_triggers-requires c =
+pub put_fields-requires-3 : goal.put_fields-requires-3
+put_fields-requires-3 c =
     let p = c.args.parts.now in
-    omega (arith, c.requires, written_long p, c.put_life-inputs.ensures.ends, c.put_inputs-outputs.ensures.ends, c.put_outputs-triggers.ensures.ends, c.put_life-inputs.auto.buffer, c.put_inputs-outputs.auto.buffer, c.put_outputs-triggers.auto.buffer)
+    let a = c.args.out.now in
+    let inputs : Wrote (inputs_bytes p) c.put_field.new.out c.put_fields.new.out = subst (λ xs. Wrote (fields_bytes (map input xs)) c.put_field.new.out c.put_fields.new.out) c.as_slice.ensures.values c.put_fields.ensures in
+    let outputs : Wrote (outputs_bytes p) c.put_fields.new.out c.put_fields-2.new.out = subst (λ xs. Wrote (fields_bytes (map (λ o. output (output_of o)) xs)) c.put_fields.new.out c.put_fields-2.new.out) c.as_slice-2.ensures.values c.put_fields-2.ensures in
+    rw c.as_slice-3.ensures.values (writing_room a (write (said p)) c.put_fields-2.new.out (triggers_bytes p) [] c.requires (after_outputs p a _ c.put_field.ensures _ inputs _ outputs))
 
 pub returns : goal.returns
 returns c =
     let p = c.args.parts.now in
-    let long = written_long p in
-    let a = c.put_life-inputs in
-    let b = c.put_inputs-outputs in
-    let d = c.put_outputs-triggers in
-    put_same 0 (field_bytes (life p.life) ++ (inputs_bytes p ++ (outputs_bytes p ++ triggers_bytes p))) _ _ _ _ (sym (write_joined p))
-    (put_then 0 (field_bytes (life p.life)) (inputs_bytes p ++ (outputs_bytes p ++ triggers_bytes p)) c.args.buffer.now a.result _ _ _ (omega (arith, c.requires)) a.ensures
-    (put_then a.result (inputs_bytes p) (outputs_bytes p ++ triggers_bytes p) a.new.buffer b.result _ _ _ (omega (arith, c.requires, a.ensures.ends, a.auto.buffer)) b.ensures
-    (put_then b.result (outputs_bytes p) (triggers_bytes p) b.new.buffer d.result _ _ _ (omega (arith, c.requires, a.ensures.ends, b.ensures.ends, a.auto.buffer, b.auto.buffer)) d.ensures c.put_triggers.ensures)))
+    let a = c.args.out.now in
+    let inputs : Wrote (inputs_bytes p) c.put_field.new.out c.put_fields.new.out = subst (λ xs. Wrote (fields_bytes (map input xs)) c.put_field.new.out c.put_fields.new.out) c.as_slice.ensures.values c.put_fields.ensures in
+    let outputs : Wrote (outputs_bytes p) c.put_fields.new.out c.put_fields-2.new.out = subst (λ xs. Wrote (fields_bytes (map (λ o. output (output_of o)) xs)) c.put_fields.new.out c.put_fields-2.new.out) c.as_slice-2.ensures.values c.put_fields-2.ensures in
+    let triggers : Wrote (triggers_bytes p) c.put_fields-2.new.out c.put_fields-3.new.out = subst (λ xs. Wrote (fields_bytes (map (λ g. trigger (trigger_of g)) xs)) c.put_fields-2.new.out c.put_fields-3.new.out) c.as_slice-3.ensures.values c.put_fields-3.ensures in
+    after_triggers p a _ c.put_field.ensures _ inputs _ outputs _ triggers

@@ -1,0 +1,80 @@
+// The bytes of operations.
+ghost use Rattle.std.specs.Prelude.{◌≡◌, ◌+◌, ◌≤◌, ◌∷◌, length, drop};
+ghost use Rattle.tables.specs.Programs.{listed};
+ghost use Rattle.tables.specs.Tables.{op_bytes, ops_bytes};
+ghost use Rattle.table_writing.specs.Writing.{Wrote};
+
+use crate::writer::Writer;
+use tables::op::{Op, Program};
+
+// The byte that stands for an operation.
+fn code(op: Op) -> u8
+    ensures { op_bytes op ≡ result ∷ drop 1 (op_bytes op) }
+{
+    match op {
+        Op::Number(_) => 1,
+        Op::Now { .. } => 2,
+        Op::Past { .. } => 3,
+        Op::Held { .. } => 4,
+        Op::Window { .. } => 5,
+        Op::Add => 6,
+        Op::Subtract => 7,
+        Op::Multiply => 8,
+        Op::Less => 9,
+        Op::Equal => 10,
+        Op::Choose => 11,
+    }
+}
+
+// Writes the operands of an operation.
+fn put_operands(out: &mut Writer, op: Op)
+    requires { out.old.at + length (drop 1 (op_bytes op)) ≤ length out.old.buffer.now }
+    ensures { Wrote (drop 1 (op_bytes op)) out.old out.new }
+{
+    match op {
+        Op::Number(value) => out.put(&value.to_le_bytes()),
+        Op::Now { stream } => out.put(&[stream]),
+        Op::Past {
+            stream,
+            back,
+            default,
+        } => {
+            out.put(&[stream, back]);
+            out.put(&default.to_le_bytes());
+        }
+        Op::Held { stream, default } => {
+            out.put(&[stream]);
+            out.put(&default.to_le_bytes());
+        }
+        Op::Window {
+            stream,
+            kind,
+            duration,
+            default,
+        } => {
+            out.put(&[stream, kind.number()]);
+            out.put(&duration.to_le_bytes());
+            out.put(&default.to_le_bytes());
+        }
+        _ => {}
+    }
+}
+
+// Writes an operation.
+fn put_op(out: &mut Writer, op: Op)
+    requires { out.old.at + length (op_bytes op) ≤ length out.old.buffer.now }
+    ensures { Wrote (op_bytes op) out.old out.new }
+{
+    out.put(&[code(op)]);
+    put_operands(out, op);
+}
+
+// Writes the operations of an output.
+pub(crate) fn put_ops(out: &mut Writer, program: &Program)
+    requires { out.old.at + length (ops_bytes (listed program.now)) ≤ length out.old.buffer.now }
+    ensures { Wrote (ops_bytes (listed program.now)) out.old out.new }
+{
+    for op in &program.ops {
+        put_op(out, *op);
+    }
+}
