@@ -57,6 +57,6 @@ impl Aggregate for Average {
         if self.count.n == 0 {
             return None;
         }
-        Some(to_i32(self.sum.total / self.count.n as i64))
+        Some(to_i32(self.sum.total / i64::from(self.count.n)))
     }
 }
