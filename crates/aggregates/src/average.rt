@@ -24,11 +24,7 @@ impl Aggregate for Average {
 
     ghost whole = { averages.whole };
 
-    ghost left = { average_joins.left };
-
-    ghost right = { average_joins.right };
-
-    ghost assoc = { average_joins.assoc };
+    ghost laws = { average_joins };
 
     ghost exact = { average_exact };
 

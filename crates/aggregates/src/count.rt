@@ -1,5 +1,5 @@
 // How many values there were. The number wraps at 2 ^ 32.
-ghost use Rattle.std.specs.Prelude.{◌≡◌, ◌^◌, ◌<◌};
+ghost use Rattle.std.specs.Prelude.{◌^◌, ◌<◌};
 
 use crate::aggregate::Aggregate;
 use crate::clamp::to_i32;
@@ -26,11 +26,7 @@ impl Aggregate for Count {
 
     ghost whole = { counts.whole };
 
-    ghost left = { count_joins.left };
-
-    ghost right = { count_joins.right };
-
-    ghost assoc = { count_joins.assoc };
+    ghost laws = { count_joins };
 
     ghost exact = { λ xs few _. count_exact xs few };
 

@@ -20,11 +20,7 @@ impl Aggregate for Largest {
 
     ghost whole = { largests.whole };
 
-    ghost left = { largest_joins.left };
-
-    ghost right = { largest_joins.right };
-
-    ghost assoc = { largest_joins.assoc };
+    ghost laws = { largest_joins };
 
     ghost exact = { λ xs _ _. largest_exact xs };
 

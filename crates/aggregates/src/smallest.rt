@@ -20,11 +20,7 @@ impl Aggregate for Smallest {
 
     ghost whole = { smallests.whole };
 
-    ghost left = { smallest_joins.left };
-
-    ghost right = { smallest_joins.right };
-
-    ghost assoc = { smallest_joins.assoc };
+    ghost laws = { smallest_joins };
 
     ghost exact = { λ xs _ _. smallest_exact xs };
 

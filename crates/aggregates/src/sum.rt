@@ -1,7 +1,6 @@
 // The sum of the values. It wraps at 64 signed bits.
-ghost use Rattle.std.specs.Prelude.{◌≡◌, ◌^◌, ◌<◌, ◌+ℤ◌};
+ghost use Rattle.std.specs.Prelude.{◌^◌, ◌<◌};
 ghost use Rattle.std.specs.Int.Signed.{mag};
-ghost use Rattle.std.specs.Int.{int_wrap, w64};
 
 use crate::aggregate::Aggregate;
 use crate::clamp::to_i32;
@@ -28,11 +27,7 @@ impl Aggregate for Sum {
 
     ghost whole = { sums.whole };
 
-    ghost left = { sum_joins.left };
-
-    ghost right = { sum_joins.right };
-
-    ghost assoc = { sum_joins.assoc };
+    ghost laws = { sum_joins };
 
     ghost exact = { sum_exact };
 

@@ -8,7 +8,7 @@ pub loop-value-init : goal.loop-value-init
 loop-value-init g c =
     let m = g.P.Aggregate in
     let l = g.met.P.Aggregate in
-    (folding_none m.neutral m.mapped m.joined (record { left = l.left; right = l.right; assoc = l.assoc }) c.args.values.now _ c.neutral-all.ensures, λ k h. absurd (omega arith))
+    (folding_none m.neutral m.mapped m.joined l.laws c.args.values.now _ c.neutral-all.ensures, λ k h. absurd (omega arith))
 
 pub returns : goal.returns
 returns g c =

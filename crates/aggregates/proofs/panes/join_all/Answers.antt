@@ -7,7 +7,7 @@ pub loop-pane-init : goal.loop-pane-init
 loop-pane-init g c =
     let m = g.P.Aggregate in
     let l = g.met.P.Aggregate in
-    folding_none m.neutral (λ p. p) m.joined (record { left = l.left; right = l.right; assoc = l.assoc }) c.args.panes.now _ c.neutral-all.ensures
+    folding_none m.neutral (λ p. p) m.joined l.laws c.args.panes.now _ c.neutral-all.ensures
 
 pub returns : goal.returns
 returns g c =
@@ -17,5 +17,5 @@ returns g c =
     let all : c.loop-pane.all ≡ join_of m.neutral m.joined c.args.panes.now = i.so_far ∙ i.done c.loop-pane.pane-index c.loop-pane-test.false in
     record {
       value = all;
-      pieces = λ pieces held. all ∙ ap (join_of m.neutral m.joined) held ∙ sym (fold_pieces m.neutral m.mapped m.joined (record { left = l.left; right = l.right; assoc = l.assoc }) pieces);
+      pieces = λ pieces held. all ∙ ap (join_of m.neutral m.joined) held ∙ sym (fold_pieces m.neutral m.mapped m.joined l.laws pieces);
     }

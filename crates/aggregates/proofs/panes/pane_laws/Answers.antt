@@ -8,7 +8,7 @@ pub returns : goal.returns
 returns g c =
     let m = g.P.Aggregate in
     let l = g.met.P.Aggregate in
-    let laws : Joins m.neutral m.joined = record { left = l.left; right = l.right; assoc = l.assoc } in
+    let laws : Joins m.neutral m.joined = l.laws in
     let folded = fold m.neutral m.mapped m.joined in
     record {
       splits = fold_pieces m.neutral m.mapped m.joined laws;
