@@ -32,29 +32,26 @@ pub fn join_all<P: Aggregate + Copy>(panes: &[P]) -> P
     ensures value { result ≡ join_of P.neutral P.joined panes.now }
     ensures pieces { (pieces : List (List ℤ)) → panes.now ≡ map (fold P.neutral P.mapped P.joined) pieces → result ≡ fold P.neutral P.mapped P.joined (flatten pieces) }
 {
-    let mut all = P::neutral();
-    for pane in panes {
-        all = all.join(*pane);
-    }
-    all
+    panes.iter().fold(P::neutral(), |all, pane| all.join(*pane))
 }
 
 // Drops the oldest pane, and gains a neutral one after the newest.
 pub fn slide<P: Aggregate + Copy>(panes: &mut [P])
     ensures { panes.new ≡ slid P.neutral panes.old }
 {
-    let newest = panes.len().saturating_sub(1);
-    make_room(panes);
-    put(panes, newest, P::neutral());
+    if let Some(oldest) = panes.first_mut() {
+        *oldest = P::neutral();
+        panes.rotate_left(1);
+    }
 }
 
 // Joins a value to the newest pane.
 pub fn join_newest<P: Aggregate + Copy>(panes: &mut [P], value: i32)
     ensures { panes.new ≡ at_newest P.neutral (λ pane. P.joined pane (P.mapped value)) panes.old }
 {
-    let newest = panes.len().saturating_sub(1);
-    let pane = pane_or(panes, newest, P::neutral());
-    put(panes, newest, pane.join(P::from_value(value)));
+    if let Some(newest) = panes.last_mut() {
+        *newest = newest.join(P::from_value(value));
+    }
 }
 
 // What holds of panes that are the folds of pieces of a list of values, whatever the aggregate.
@@ -63,28 +60,3 @@ pub fn pane_laws<P: Aggregate>()
     ensures slides { Slides P.neutral P.mapped P.joined }
     ensures gains { Gains P.neutral P.mapped P.joined }
 {}
-
-// The pane at `i`, or `other` where there is none.
-fn pane_or<P: Copy>(panes: &[P], i: usize, other: P) -> P
-    ensures { result ≡ slice_index_or panes.now i other }
-{
-    if i < panes.len() { panes[i] } else { other }
-}
-
-// Writes the pane at `i`, where there is one.
-fn put<P: Copy>(panes: &mut [P], i: usize, new: P)
-    ensures { panes.new ≡ slice_set panes.old i new }
-{
-    if i < panes.len() {
-        panes[i] = new;
-    }
-}
-
-// Moves each pane one place toward the oldest. What is then written to the newest place completes the slide.
-fn make_room<P: Copy>(panes: &mut [P])
-    ensures { (new : P) → slice_set panes.new (length panes.old - 1) new ≡ slid new panes.old }
-{
-    if panes.len() > 0 {
-        panes.rotate_left(1);
-    }
-}
