@@ -1,6 +1,6 @@
 // Panes, written once for every aggregate. A pane is the partial of the values of one stretch of time; the panes of a
 // window stand oldest first, so that the newest is the last.
-ghost use Rattle.std.specs.Prelude.{◌≡◌, ◌-◌, List, map, length, ℤ, slice_index_or, slice_set};
+ghost use Rattle.std.specs.Prelude.{◌≡◌, List, map, ℤ};
 ghost use mathlib.Core.List.{flatten};
 ghost use Rattle.aggregates.specs.Folds.{fold, join_of, slid, at_newest, Splits, Slides, Gains};
 ghost use Rattle.aggregates.specs.Wholes.{Few};
