@@ -50,9 +50,7 @@ impl Aggregate for Average {
     }
 
     fn finish(self) -> Option<i32> {
-        if self.count.n == 0 {
-            return None;
-        }
-        Some(to_i32(self.sum.total / i64::from(self.count.n)))
+        let mean = self.sum.total.checked_div(i64::from(self.count.n))?;
+        Some(to_i32(mean))
     }
 }
