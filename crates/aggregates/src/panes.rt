@@ -2,14 +2,15 @@
 // window stand oldest first, so that the newest is the last.
 ghost use Rattle.std.specs.Prelude.{◌≡◌, List, map, ℤ};
 ghost use mathlib.Core.List.{flatten};
-ghost use Rattle.aggregates.specs.Folds.{fold, join_of, slid, at_newest, Splits, Slides, Gains};
+ghost use Rattle.aggregates.specs.Figures.{figure_of, partial_of};
+ghost use Rattle.aggregates.specs.Folds.{join_of, slid, at_newest, Splits, Slides, Gains};
 ghost use Rattle.aggregates.specs.Wholes.{Few};
 
 use crate::aggregate::Aggregate;
 
 // The values' partials, joined in order.
 pub fn fold_values<P: Aggregate>(values: &[i32]) -> P
-    ensures value { result ≡ fold P.neutral P.mapped P.joined values.now }
+    ensures value { result ≡ partial_of P.Aggregate values.now }
     ensures exact { Few values.now → P.finished result ≡ P.whole values.now }
 {
     let mut all = P::neutral();
@@ -21,7 +22,7 @@ pub fn fold_values<P: Aggregate>(values: &[i32]) -> P
 
 // The figure of the values.
 pub fn figure<P: Aggregate>(values: &[i32]) -> Option<i32>
-    ensures value { result ≡ P.finished (fold P.neutral P.mapped P.joined values.now) }
+    ensures value { result ≡ figure_of P.Aggregate values.now }
     ensures exact { Few values.now → result ≡ P.whole values.now }
 {
     fold_values::<P>(values).finish()
@@ -30,7 +31,8 @@ pub fn figure<P: Aggregate>(values: &[i32]) -> Option<i32>
 // The panes, joined oldest first. Where they are the folds of pieces of a list of values, that is the list's fold.
 pub fn join_all<P: Aggregate + Copy>(panes: &[P]) -> P
     ensures value { result ≡ join_of P.neutral P.joined panes.now }
-    ensures pieces { (pieces : List (List ℤ)) → panes.now ≡ map (fold P.neutral P.mapped P.joined) pieces → result ≡ fold P.neutral P.mapped P.joined (flatten pieces) }
+    ensures pieces { (pieces : List (List ℤ)) → panes.now ≡ map (partial_of P.Aggregate) pieces →
+        result ≡ partial_of P.Aggregate (flatten pieces) }
 {
     panes.iter().fold(P::neutral(), |all, pane| all.join(*pane))
 }
