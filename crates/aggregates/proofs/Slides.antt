@@ -1,15 +1,8 @@
 -- Sliding panes.
-use Rattle.std.proofs.Common.{◌≡◌, ◌-◌, List, [], ◌∷◌, ◌++◌, map, length, get_or, take, drop, set, sym, refl, ap, ◌∙◌, arith}
+use Rattle.std.proofs.Common.{◌≡◌, ◌-◌, List, [], ◌∷◌, map, length, get_or, set, sym, refl, ap, ◌∙◌}
 use lib.ListN.{get_or-map}
-use Rattle.std.proofs.lemmas.List.{set_at, map-append, map-set, length-map}
+use Rattle.std.proofs.lemmas.List.{map-append, map-set, length-map}
 use Rattle.aggregates.specs.Folds.{slid, at_newest}
-
--- the panes turned by one place, and a new one in the place of the oldest
-pub turned : {M : Type 0} (ps qs : List M) (new : M) → qs ≡ drop 1 ps ++ take 1 ps → set qs (length ps - 1) new ≡ slid new ps
-turned [] qs new e = ap (λ l. set l 0 new) e
-turned (p ∷ ps) qs new e =
-    let n : length ps ≡ length (p ∷ ps) - 1 = omega arith in
-    ap (λ l. set l (length (p ∷ ps) - 1) new) e ∙ set_at ps p [] new (length (p ∷ ps) - 1) n
 
 -- a map over panes goes along with their changes
 module _ {M N : Type 0} (f : M → N) where

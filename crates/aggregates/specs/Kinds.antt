@@ -1,9 +1,10 @@
 -- The kinds of aggregate: their numbers, and their figures of a list of values.
-use Rattle.std.specs.Prelude.{ℕ, List, ℤ, Option}
+use Rattle.std.specs.Prelude.{◌≡◌, ◌≢◌, ℕ, List, ℤ, Option, Result, MatchResult}
 use Rattle.aggregates.specs.Figures.{figure_of}
 use Rattle.aggregates.specs.Partials.{averages, counts, largests, smallests, sums}
 use Rattle.aggregates.specs.declared.kind.Kind.{Kind}
 use Rattle.aggregates.specs.declared.kind.Kind.TheVariants.{Count, Sum, Smallest, Largest, Average}
+use Rattle.aggregates.specs.declared.kind.UnknownKind.{UnknownKind}
 
 abbrev pub number : Kind → ℕ
 number Count = 1
@@ -11,6 +12,10 @@ number Sum = 2
 number Smallest = 3
 number Largest = 4
 number Average = 5
+
+-- the kind with this number, or an error with the number, which no kind has
+abbrev pub Decodes : ℕ → Result Kind UnknownKind → Type 0
+Decodes n r = MatchResult r (λ kind. number kind ≡ n) (λ e. (e.0 ≡ n) × ((kind : Kind) → number kind ≢ n))
 
 -- read off partials
 abbrev pub kind_figure : Kind → List ℤ → Option ℤ

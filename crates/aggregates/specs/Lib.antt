@@ -1,6 +1,7 @@
 pub mod AverageLaws
 pub mod Averages
 pub mod CountLaws
+pub mod ExtremeLaws
 pub mod Figures
 pub mod FoldLaws
 pub mod Folds

@@ -1,5 +1,5 @@
 -- What the aggregates keep of values: the data of each `impl`.
-use Rattle.std.specs.Prelude.{◌+◌, ◌%◌, ◌^◌, length, pos, ◌+ℤ◌, Some, None, if◌then◌else◌, int_div, nat_eq}
+use Rattle.std.specs.Prelude.{◌+◌, ◌%◌, ◌^◌, length, ℤ, pos, ◌+ℤ◌, Some, None, if◌then◌else◌, int_div, nat_eq}
 use Rattle.std.specs.Int.{int_wrap, int_min, int_max, w64}
 use Rattle.std.proofs.Common.{mod-lt, lit<}
 use Rattle.std.proofs.lemmas.Int.{SFits-int_wrap}
@@ -9,8 +9,9 @@ use Rattle.aggregates.specs.Wholes.{clamped, sumZ}
 use Rattle.aggregates.specs.declared.aggregate.Aggregate.{Ghosts}
 use Rattle.aggregates.specs.declared.average.Average.{Average}
 use Rattle.aggregates.specs.declared.count.Count.{Count}
-use Rattle.aggregates.specs.declared.largest.Largest.{Largest}
-use Rattle.aggregates.specs.declared.smallest.Smallest.{Smallest}
+use Rattle.aggregates.specs.declared.extreme.Extreme.{Extreme}
+use Rattle.aggregates.specs.declared.largest.Max.{Max}
+use Rattle.aggregates.specs.declared.smallest.Min.{Min}
 use Rattle.aggregates.specs.declared.sum.Sum.{Sum}
 
 abbrev pub counts : Ghosts Count
@@ -34,23 +35,21 @@ sums = record {
   whole = λ xs. Some (clamped (sumZ xs));
 }
 
-abbrev pub smallests : Ghosts Smallest
-smallests = record {
-  mapped = λ v. record { least = Some v };
-  neutral = record { least = None };
-  joined = λ x y. record { least = either int_min x.least y.least };
-  finished = λ x. x.least;
-  whole = best int_min;
+-- of the value that is picked of all
+abbrev pub extremes : {P : Type 0} → (ℤ → ℤ → ℤ) → Ghosts (Extreme P)
+extremes pick = record {
+  mapped = λ v. record { best = Some v; by = record {} };
+  neutral = record { best = None; by = record {} };
+  joined = λ x y. record { best = either pick x.best y.best; by = record {} };
+  finished = λ x. x.best;
+  whole = best pick;
 }
 
-abbrev pub largests : Ghosts Largest
-largests = record {
-  mapped = λ v. record { greatest = Some v };
-  neutral = record { greatest = None };
-  joined = λ x y. record { greatest = either int_max x.greatest y.greatest };
-  finished = λ x. x.greatest;
-  whole = best int_max;
-}
+abbrev pub smallests : Ghosts (Extreme Min)
+smallests = extremes int_min
+
+abbrev pub largests : Ghosts (Extreme Max)
+largests = extremes int_max
 
 abbrev pub averages : Ghosts Average
 averages = record {

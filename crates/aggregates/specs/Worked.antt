@@ -1,5 +1,8 @@
 -- Worked cases as one table, and the test that each of them passes.
-use Rattle.std.specs.Prelude.{Bool, true, false, ◌&&◌, List, [], ◌∷◌, ℤ, pos, negsuc, Some, None, Option, ◌==◌}
+use Rattle.std.specs.Prelude.{Bool, ◌&&◌, List, [], ◌∷◌, ℤ, pos, negsuc, Some, None, Option}
+use Rattle.std.specs.List.{list_all}
+use Rattle.std.specs.Option.{option_eq}
+use Rattle.std.specs.Ordering.{int_eq}
 use Rattle.aggregates.specs.Kinds.{kind_figure, kind_whole}
 use Rattle.aggregates.specs.declared.kind.Kind.{Kind}
 use Rattle.aggregates.specs.declared.kind.Kind.TheVariants.{Count, Sum, Smallest, Largest, Average}
@@ -8,24 +11,11 @@ use Rattle.aggregates.specs.declared.kind.Kind.TheVariants.{Count, Sum, Smallest
 pub data Case : Type 0 where
   gives : Kind → List ℤ → Option ℤ → Case
 
-abbrev same_number : ℤ → ℤ → Bool
-same_number (pos a) (pos b) = a == b
-same_number (pos a) (negsuc b) = false
-same_number (negsuc a) (pos b) = false
-same_number (negsuc a) (negsuc b) = a == b
-
-abbrev same_figure : Option ℤ → Option ℤ → Bool
-same_figure None None = true
-same_figure None (Some b) = false
-same_figure (Some a) None = false
-same_figure (Some a) (Some b) = same_number a b
-
 abbrev pub passes : Case → Bool
-passes (gives k xs a) = same_figure (kind_figure k xs) a && same_figure (kind_whole k xs) a
+passes (gives k xs a) = option_eq int_eq (kind_figure k xs) a && option_eq int_eq (kind_whole k xs) a
 
 abbrev pub all_pass : List Case → Bool
-all_pass [] = true
-all_pass (c ∷ cs) = passes c && all_pass cs
+all_pass cs = list_all passes cs
 
 abbrev pub worked_cases : List Case
 worked_cases =

@@ -1,6 +1,7 @@
 // The interface of an aggregate. The type that implements it is the aggregate's partial: what is kept of some values
 // until their figure is asked for.
-ghost use Rattle.std.specs.Prelude.{◌≡◌, List, ℤ, Option as Maybe};
+ghost use Rattle.std.specs.Prelude.{◌≡◌, List, ℤ, Option};
+ghost use Rattle.aggregates.specs.Folds.{Joins};
 ghost use Rattle.aggregates.specs.Wholes.{Exact};
 
 pub trait Aggregate {
@@ -14,10 +15,10 @@ pub trait Aggregate {
     ghost joined: { Self → Self → Self };
 
     // The figure of a partial's values, or none.
-    ghost finished: { Self → Maybe ℤ };
+    ghost finished: { Self → Option ℤ };
 
     // The figure of a list of values in whole numbers without a bound, clamped to 32 signed bits.
-    ghost whole: { List ℤ → Maybe ℤ };
+    ghost whole: { List ℤ → Option ℤ };
 
     fn from_value(value: i32) -> Self
         ensures { result ≡ mapped value };
@@ -31,11 +32,8 @@ pub trait Aggregate {
     fn finish(self) -> Option<i32>
         ensures { result ≡ finished self };
 
-    ghost left: { (x : Self) → joined neutral x ≡ x };
-
-    ghost right: { (x : Self) → joined x neutral ≡ x };
-
-    ghost assoc: { (x y z : Self) → joined (joined x y) z ≡ joined x (joined y z) };
+    // To join is associative, and the neutral partial changes nothing on either side.
+    ghost laws: { Joins neutral joined };
 
     // Partials of few enough values lose nothing.
     ghost exact: { Exact neutral mapped joined finished whole };

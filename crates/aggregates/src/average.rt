@@ -24,11 +24,7 @@ impl Aggregate for Average {
 
     ghost whole = { averages.whole };
 
-    ghost left = { average_joins.left };
-
-    ghost right = { average_joins.right };
-
-    ghost assoc = { average_joins.assoc };
+    ghost laws = { average_joins };
 
     ghost exact = { average_exact };
 
@@ -54,9 +50,7 @@ impl Aggregate for Average {
     }
 
     fn finish(self) -> Option<i32> {
-        if self.count.n == 0 {
-            return None;
-        }
-        Some(to_i32(self.sum.total / self.count.n as i64))
+        let mean = self.sum.total.checked_div(i64::from(self.count.n))?;
+        Some(to_i32(mean))
     }
 }

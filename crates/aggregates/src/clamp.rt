@@ -6,5 +6,5 @@ ghost use Rattle.aggregates.specs.Wholes.{clamped};
 pub fn to_i32(v: i64) -> i32
     ensures { result ≡ clamped v }
 {
-    v.clamp(-2147483648, 2147483647) as i32
+    v.clamp(i64::from(i32::MIN), i64::from(i32::MAX)) as i32
 }

@@ -1,5 +1,5 @@
 // How many values there were. The number wraps at 2 ^ 32.
-ghost use Rattle.std.specs.Prelude.{◌≡◌, ◌^◌, ◌<◌};
+ghost use Rattle.std.specs.Prelude.{◌^◌, ◌<◌};
 
 use crate::aggregate::Aggregate;
 use crate::clamp::to_i32;
@@ -11,15 +11,7 @@ pub struct Count {
     ghost fits: { n < 2 ^ 32 },
 }
 
-impl Count {
-    // The one partial whose number is `n`.
-    fn of(n: u32) -> Count
-        ensures { (x : Count) → n ≡ x.n → result ≡ x }
-    {
-        Count { n }
-    }
-}
-
+#[tactic(auto, using(crate::specs::CountLaws::count_same))]
 impl Aggregate for Count {
     ghost use Rattle.aggregates.specs.Partials.{counts};
     ghost use Rattle.aggregates.specs.CountLaws.{count_joins, count_exact};
@@ -34,27 +26,25 @@ impl Aggregate for Count {
 
     ghost whole = { counts.whole };
 
-    ghost left = { count_joins.left };
-
-    ghost right = { count_joins.right };
-
-    ghost assoc = { count_joins.assoc };
+    ghost laws = { count_joins };
 
     ghost exact = { λ xs few _. count_exact xs few };
 
     fn from_value(_value: i32) -> Count {
-        Count::of(1)
+        Count { n: 1 }
     }
 
     fn neutral() -> Count {
-        Count::of(0)
+        Count { n: 0 }
     }
 
     fn join(self, other: Count) -> Count {
-        Count::of(self.n.wrapping_add(other.n))
+        Count {
+            n: self.n.wrapping_add(other.n),
+        }
     }
 
     fn finish(self) -> Option<i32> {
-        Some(to_i32(self.n as i64))
+        Some(to_i32(i64::from(self.n)))
     }
 }

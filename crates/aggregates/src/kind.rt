@@ -1,6 +1,6 @@
 // The kinds of aggregate.
 ghost use Rattle.std.specs.Prelude.{◌≡◌, true, Some, None, ◌≢◌};
-ghost use Rattle.aggregates.specs.Kinds.{number, kind_figure, kind_whole};
+ghost use Rattle.aggregates.specs.Kinds.{Decodes, number, kind_figure, kind_whole};
 ghost use Rattle.aggregates.specs.Picks.{Least, Greatest};
 ghost use Rattle.aggregates.specs.Wholes.{Few};
 ghost use Rattle.aggregates.specs.Worked.{all_pass, worked_cases};
@@ -12,13 +12,42 @@ use crate::panes::figure;
 use crate::smallest::Smallest;
 use crate::sum::Sum;
 
-#[derive(Clone, Copy)]
+#[derive(Clone, Copy, Debug, PartialEq, Eq, Hash)]
 pub enum Kind {
-    Count,
-    Sum,
-    Smallest,
-    Largest,
-    Average,
+    Count = 1,
+    Sum = 2,
+    Smallest = 3,
+    Largest = 4,
+    Average = 5,
+}
+
+// A number that no kind has.
+#[derive(Clone, Copy, Debug, PartialEq, Eq, Hash)]
+pub struct UnknownKind(pub u8);
+
+impl From<Kind> for u8 {
+    ghost from_gives = { λ kind n. n ≡ number kind };
+
+    fn from(kind: Kind) -> u8 {
+        kind as u8
+    }
+}
+
+impl TryFrom<u8> for Kind {
+    type Error = UnknownKind;
+
+    ghost try_from_gives = { Decodes };
+
+    fn try_from(n: u8) -> Result<Kind, UnknownKind> {
+        match n {
+            1 => Ok(Kind::Count),
+            2 => Ok(Kind::Sum),
+            3 => Ok(Kind::Smallest),
+            4 => Ok(Kind::Largest),
+            5 => Ok(Kind::Average),
+            _ => Err(UnknownKind(n)),
+        }
+    }
 }
 
 impl Kind {
@@ -27,27 +56,14 @@ impl Kind {
         ensures value { result ≡ number self }
         ensures only { (kind : Kind) → number kind ≡ result → kind ≡ self }
     {
-        match self {
-            Kind::Count => 1,
-            Kind::Sum => 2,
-            Kind::Smallest => 3,
-            Kind::Largest => 4,
-            Kind::Average => 5,
-        }
+        u8::from(self)
     }
 
     // The kind whose number is `n`.
     pub fn from_number(n: u8) -> Option<Kind>
         ensures { elim result [ Some kind ↦ number kind ≡ n | None ↦ ((kind : Kind) → number kind ≢ n) ] }
     {
-        match n {
-            1 => Some(Kind::Count),
-            2 => Some(Kind::Sum),
-            3 => Some(Kind::Smallest),
-            4 => Some(Kind::Largest),
-            5 => Some(Kind::Average),
-            _ => None,
-        }
+        Kind::try_from(n).ok()
     }
 
     // The kind's figure of the values.

@@ -1,53 +1,21 @@
-// The largest of the values, where there is one. It has 32 signed bits as each value has, so it needs no clamp.
-use crate::aggregate::Aggregate;
+// The largest of the values, where there is one.
+use crate::extreme::{Extreme, Pick};
 
+pub type Largest = Extreme<Max>;
+
+// Picks the larger of two values.
 #[derive(Clone, Copy)]
-pub struct Largest {
-    pub greatest: Option<i32>,
-}
+pub struct Max;
 
-impl Aggregate for Largest {
-    ghost use Rattle.aggregates.specs.Partials.{largests};
-    ghost use Rattle.aggregates.specs.LargestLaws.{largest_joins, largest_exact};
+impl Pick for Max {
+    ghost use Rattle.std.specs.Int.{int_max};
+    ghost use Rattle.aggregates.specs.PickLaws.{max_assoc};
 
-    ghost mapped = { largests.mapped };
+    ghost picked = { int_max };
 
-    ghost neutral = { largests.neutral };
+    ghost assoc = { max_assoc };
 
-    ghost joined = { largests.joined };
-
-    ghost finished = { largests.finished };
-
-    ghost whole = { largests.whole };
-
-    ghost left = { largest_joins.left };
-
-    ghost right = { largest_joins.right };
-
-    ghost assoc = { largest_joins.assoc };
-
-    ghost exact = { λ xs _ _. largest_exact xs };
-
-    fn from_value(value: i32) -> Largest {
-        Largest {
-            greatest: Some(value),
-        }
-    }
-
-    fn neutral() -> Largest {
-        Largest { greatest: None }
-    }
-
-    fn join(self, other: Largest) -> Largest {
-        let greatest = match (self.greatest, other.greatest) {
-            (None, b) => b,
-            (Some(a), None) => Some(a),
-            (Some(a), Some(b)) => Some(a.max(b)),
-        };
-        Largest { greatest }
-    }
-
-    fn finish(self) -> Option<i32> {
-        self.greatest
+    fn pick(a: i32, b: i32) -> i32 {
+        a.max(b)
     }
 }

@@ -5,6 +5,7 @@ pub mod aggregate;
 pub mod average;
 pub mod clamp;
 pub mod count;
+pub mod extreme;
 pub mod kind;
 pub mod largest;
 pub mod panes;

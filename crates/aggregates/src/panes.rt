@@ -1,15 +1,16 @@
 // Panes, written once for every aggregate. A pane is the partial of the values of one stretch of time; the panes of a
 // window stand oldest first, so that the newest is the last.
-ghost use Rattle.std.specs.Prelude.{◌≡◌, ◌-◌, List, map, length, ℤ, slice_index_or, slice_set};
+ghost use Rattle.std.specs.Prelude.{◌≡◌, List, map, ℤ};
 ghost use mathlib.Core.List.{flatten};
-ghost use Rattle.aggregates.specs.Folds.{fold, join_of, slid, at_newest, Splits, Slides, Gains};
+ghost use Rattle.aggregates.specs.Figures.{figure_of, partial_of};
+ghost use Rattle.aggregates.specs.Folds.{join_of, slid, at_newest, Splits, Slides, Gains};
 ghost use Rattle.aggregates.specs.Wholes.{Few};
 
 use crate::aggregate::Aggregate;
 
 // The values' partials, joined in order.
 pub fn fold_values<P: Aggregate>(values: &[i32]) -> P
-    ensures value { result ≡ fold P.neutral P.mapped P.joined values.now }
+    ensures value { result ≡ partial_of P.Aggregate values.now }
     ensures exact { Few values.now → P.finished result ≡ P.whole values.now }
 {
     let mut all = P::neutral();
@@ -21,7 +22,7 @@ pub fn fold_values<P: Aggregate>(values: &[i32]) -> P
 
 // The figure of the values.
 pub fn figure<P: Aggregate>(values: &[i32]) -> Option<i32>
-    ensures value { result ≡ P.finished (fold P.neutral P.mapped P.joined values.now) }
+    ensures value { result ≡ figure_of P.Aggregate values.now }
     ensures exact { Few values.now → result ≡ P.whole values.now }
 {
     fold_values::<P>(values).finish()
@@ -30,31 +31,29 @@ pub fn figure<P: Aggregate>(values: &[i32]) -> Option<i32>
 // The panes, joined oldest first. Where they are the folds of pieces of a list of values, that is the list's fold.
 pub fn join_all<P: Aggregate + Copy>(panes: &[P]) -> P
     ensures value { result ≡ join_of P.neutral P.joined panes.now }
-    ensures pieces { (pieces : List (List ℤ)) → panes.now ≡ map (fold P.neutral P.mapped P.joined) pieces → result ≡ fold P.neutral P.mapped P.joined (flatten pieces) }
+    ensures pieces { (pieces : List (List ℤ)) → panes.now ≡ map (partial_of P.Aggregate) pieces →
+        result ≡ partial_of P.Aggregate (flatten pieces) }
 {
-    let mut all = P::neutral();
-    for pane in panes {
-        all = all.join(*pane);
-    }
-    all
+    panes.iter().fold(P::neutral(), |all, pane| all.join(*pane))
 }
 
 // Drops the oldest pane, and gains a neutral one after the newest.
 pub fn slide<P: Aggregate + Copy>(panes: &mut [P])
     ensures { panes.new ≡ slid P.neutral panes.old }
 {
-    let newest = panes.len().saturating_sub(1);
-    make_room(panes);
-    put(panes, newest, P::neutral());
+    if let Some(oldest) = panes.first_mut() {
+        *oldest = P::neutral();
+        panes.rotate_left(1);
+    }
 }
 
 // Joins a value to the newest pane.
 pub fn join_newest<P: Aggregate + Copy>(panes: &mut [P], value: i32)
     ensures { panes.new ≡ at_newest P.neutral (λ pane. P.joined pane (P.mapped value)) panes.old }
 {
-    let newest = panes.len().saturating_sub(1);
-    let pane = pane_or(panes, newest, P::neutral());
-    put(panes, newest, pane.join(P::from_value(value)));
+    if let Some(newest) = panes.last_mut() {
+        *newest = newest.join(P::from_value(value));
+    }
 }
 
 // What holds of panes that are the folds of pieces of a list of values, whatever the aggregate.
@@ -63,28 +62,3 @@ pub fn pane_laws<P: Aggregate>()
     ensures slides { Slides P.neutral P.mapped P.joined }
     ensures gains { Gains P.neutral P.mapped P.joined }
 {}
-
-// The pane at `i`, or `other` where there is none.
-fn pane_or<P: Copy>(panes: &[P], i: usize, other: P) -> P
-    ensures { result ≡ slice_index_or panes.now i other }
-{
-    if i < panes.len() { panes[i] } else { other }
-}
-
-// Writes the pane at `i`, where there is one.
-fn put<P: Copy>(panes: &mut [P], i: usize, new: P)
-    ensures { panes.new ≡ slice_set panes.old i new }
-{
-    if i < panes.len() {
-        panes[i] = new;
-    }
-}
-
-// Moves each pane one place toward the oldest. What is then written to the newest place completes the slide.
-fn make_room<P: Copy>(panes: &mut [P])
-    ensures { (new : P) → slice_set panes.new (length panes.old - 1) new ≡ slid new panes.old }
-{
-    if panes.len() > 0 {
-        panes.rotate_left(1);
-    }
-}

@@ -1,51 +1,21 @@
-// The smallest of the values, where there is one. It has 32 signed bits as each value has, so it needs no clamp.
-use crate::aggregate::Aggregate;
+// The smallest of the values, where there is one.
+use crate::extreme::{Extreme, Pick};
 
+pub type Smallest = Extreme<Min>;
+
+// Picks the smaller of two values.
 #[derive(Clone, Copy)]
-pub struct Smallest {
-    pub least: Option<i32>,
-}
+pub struct Min;
 
-impl Aggregate for Smallest {
-    ghost use Rattle.aggregates.specs.Partials.{smallests};
-    ghost use Rattle.aggregates.specs.SmallestLaws.{smallest_joins, smallest_exact};
+impl Pick for Min {
+    ghost use Rattle.std.specs.Int.{int_min};
+    ghost use Rattle.aggregates.specs.PickLaws.{min_assoc};
 
-    ghost mapped = { smallests.mapped };
+    ghost picked = { int_min };
 
-    ghost neutral = { smallests.neutral };
+    ghost assoc = { min_assoc };
 
-    ghost joined = { smallests.joined };
-
-    ghost finished = { smallests.finished };
-
-    ghost whole = { smallests.whole };
-
-    ghost left = { smallest_joins.left };
-
-    ghost right = { smallest_joins.right };
-
-    ghost assoc = { smallest_joins.assoc };
-
-    ghost exact = { λ xs _ _. smallest_exact xs };
-
-    fn from_value(value: i32) -> Smallest {
-        Smallest { least: Some(value) }
-    }
-
-    fn neutral() -> Smallest {
-        Smallest { least: None }
-    }
-
-    fn join(self, other: Smallest) -> Smallest {
-        let least = match (self.least, other.least) {
-            (None, b) => b,
-            (Some(a), None) => Some(a),
-            (Some(a), Some(b)) => Some(a.min(b)),
-        };
-        Smallest { least }
-    }
-
-    fn finish(self) -> Option<i32> {
-        self.least
+    fn pick(a: i32, b: i32) -> i32 {
+        a.min(b)
     }
 }

@@ -1,7 +1,6 @@
 // The sum of the values. It wraps at 64 signed bits.
-ghost use Rattle.std.specs.Prelude.{◌≡◌, ◌^◌, ◌<◌, ◌+ℤ◌};
+ghost use Rattle.std.specs.Prelude.{◌^◌, ◌<◌};
 ghost use Rattle.std.specs.Int.Signed.{mag};
-ghost use Rattle.std.specs.Int.{int_wrap, w64};
 
 use crate::aggregate::Aggregate;
 use crate::clamp::to_i32;
@@ -13,29 +12,7 @@ pub struct Sum {
     ghost fits: { mag total < 2 ^ 63 },
 }
 
-impl Sum {
-    // The one partial whose total is `total`.
-    fn of(total: i64) -> Sum
-        ensures { (x : Sum) → total ≡ x.total → result ≡ x }
-    {
-        Sum { total }
-    }
-}
-
-// A value as a total.
-fn widened(value: i32) -> i64
-    ensures { result ≡ int_wrap w64 value }
-{
-    value as i64
-}
-
-// The sum modulo 2 ^ 64.
-fn wrapping_sum(a: i64, b: i64) -> i64
-    ensures { result ≡ int_wrap w64 (a +ℤ b) }
-{
-    a.wrapping_add(b)
-}
-
+#[tactic(auto, using(crate::specs::SumLaws::sum_same, std::proofs::lemmas::Int::wraps))]
 impl Aggregate for Sum {
     ghost use Rattle.aggregates.specs.Partials.{sums};
     ghost use Rattle.aggregates.specs.SumLaws.{sum_joins, sum_exact};
@@ -50,24 +27,24 @@ impl Aggregate for Sum {
 
     ghost whole = { sums.whole };
 
-    ghost left = { sum_joins.left };
-
-    ghost right = { sum_joins.right };
-
-    ghost assoc = { sum_joins.assoc };
+    ghost laws = { sum_joins };
 
     ghost exact = { sum_exact };
 
     fn from_value(value: i32) -> Sum {
-        Sum::of(widened(value))
+        Sum {
+            total: i64::from(value),
+        }
     }
 
     fn neutral() -> Sum {
-        Sum::of(0)
+        Sum { total: 0 }
     }
 
     fn join(self, other: Sum) -> Sum {
-        Sum::of(wrapping_sum(self.total, other.total))
+        Sum {
+            total: self.total.wrapping_add(other.total),
+        }
     }
 
     fn finish(self) -> Option<i32> {

@@ -1,5 +1,5 @@
 use Rattle.std.proofs.Common.{[], ◌∷◌, ◌++◌, sym}
-use Rattle.aggregates.specs.Folds.{Joins, fold}
+use Rattle.aggregates.specs.Folds.{fold}
 use Rattle.aggregates.proofs.Folds.{fold_pieces, fold_push}
 use Rattle.aggregates.proofs.Slides.{slid_map, newest_map}
 use Rattle.aggregates.proofs.panes.pane_laws.Goals as goal
@@ -7,8 +7,7 @@ use Rattle.aggregates.proofs.panes.pane_laws.Goals as goal
 pub returns : goal.returns
 returns g c =
     let m = g.P.Aggregate in
-    let l = g.met.P.Aggregate in
-    let laws : Joins m.neutral m.joined = record { left = l.left; right = l.right; assoc = l.assoc } in
+    let laws = g.met.P.Aggregate.laws in
     let folded = fold m.neutral m.mapped m.joined in
     record {
       splits = fold_pieces m.neutral m.mapped m.joined laws;
