@@ -1,0 +1,143 @@
+// A vector of at most `N` values, kept without a heap. Clauses see the list of its values.
+ghost use Rattle.std.specs.Prelude.{◌≡◌, ◌≤◌, ◌<◌, ◌^◌, [], length, take, drop, slice_get, codes, Some, ⊤};
+ghost use Rattle.std.specs.Slice.Iter.{iter_rest};
+ghost use Rattle.std.specs.Iterator.Adapters.{IterYieldsInOrder};
+ghost use Rattle.fixed.specs.Pushing.{pushed, push_answer};
+
+use crate::blank::Blank;
+use std::alloc::AllocError;
+use std::error::Error;
+use std::fmt;
+use std::marker::Model;
+use std::slice::Iter;
+
+// No place is free.
+#[derive(Clone, Copy, Debug, PartialEq, Eq)]
+pub struct Full;
+
+impl fmt::Display for Full {
+    ghost output = { λ _. Some (codes "no place is free") };
+
+    fn fmt<W: fmt::Write>(&self, f: &mut fmt::Formatter<W>) -> fmt::Result {
+        f.write_str("no place is free")
+    }
+}
+
+impl Error for Full {}
+
+// The places behind the last value hold blanks, so that vectors of the same values are equal.
+#[derive(Copy)]
+pub struct FixedVec<T: Blank, const N: usize> {
+    items: [T; N],
+    count: usize,
+}
+
+impl<T: Blank, const N: usize> Model for FixedVec<T, N> {
+    ghost use Rattle.std.specs.Prelude.{List, length, take};
+    ghost use Rattle.std.proofs.Common.{ap₂};
+    ghost use Rattle.fixed.specs.Holding.{Holds, filled, filled_held, length_held};
+
+    ghost Value = { List T };
+
+    ghost view = { λ v. take v.count v.items };
+
+    ghost invariant = { λ v. Holds T.blank N v.items v.count };
+
+    ghost inverse = { λ xs. record { items = filled T.blank N xs; count = length xs } };
+
+    ghost inverse_ok = { λ _ h. ap₂ (λ is n. record { items = is; count = n }) (filled_held h) (length_held h) };
+}
+
+impl<T: Blank, const N: usize> Clone for FixedVec<T, N> {
+    ghost is_clone = { λ v w. w ≡ v };
+
+    ghost is_infallible = { λ _. ⊤ };
+
+    fn clone(&self) -> Result<FixedVec<T, N>, AllocError> {
+        Ok(*self)
+    }
+}
+
+impl<T: Blank, const N: usize> Blank for FixedVec<T, N> {
+    ghost blank = { [] };
+
+    fn blank() -> FixedVec<T, N> {
+        FixedVec::new()
+    }
+}
+
+impl<T: Blank, const N: usize> FixedVec<T, N> {
+    // A vector of no value.
+    pub fn new() -> FixedVec<T, N>
+        ensures { result ≡ [] }
+    {
+        FixedVec {
+            items: [T::blank(); N],
+            count: 0,
+        }
+    }
+
+    // The first values of a slice, as many as there are places.
+    pub fn starting(values: &[T]) -> FixedVec<T, N>
+        ensures { result ≡ take N values.now }
+    {
+        let count = values.len().min(N);
+        let mut items = [T::blank(); N];
+        items[..count].copy_from_slice(&values[..count]);
+        FixedVec { items, count }
+    }
+
+    pub fn as_slice(&self) -> &[T]
+        ensures values { result.now ≡ self.now }
+        ensures few { length self.now ≤ N }
+    {
+        &self.items[..self.count]
+    }
+
+    pub fn len(&self) -> usize
+        ensures count { result ≡ length self.now }
+        ensures few { length self.now ≤ N }
+    {
+        self.as_slice().len()
+    }
+
+    // Puts a value behind the others; refused where no place is free.
+    pub fn push(&mut self, value: T) -> Result<(), Full>
+        ensures answers { result ≡ push_answer N self.old }
+        ensures pushes { self.new ≡ pushed N value self.old }
+    {
+        if self.count == N {
+            return Err(Full);
+        }
+        self.items[self.count] = value;
+        self.count += 1;
+        Ok(())
+    }
+
+    // Takes the first value out, where there is one; the others move down.
+    pub fn pop_front(&mut self) -> Option<T>
+        ensures answers { result ≡ slice_get self.old 0 }
+        ensures drops { self.new ≡ drop 1 self.old }
+    {
+        if self.count == 0 {
+            return None;
+        }
+        let first = self.items[0];
+        self.items[0] = T::blank();
+        self.items.rotate_left(1);
+        self.count -= 1;
+        Some(first)
+    }
+}
+
+impl<'a, T: Blank, const N: usize> IntoIterator for &'a FixedVec<T, N> {
+    type Item = &'a T;
+
+    type IntoIter = Iter<'a, T>;
+
+    ghost into_iter_gives = { λ v r. (iter_rest r ≡ v.now) × (length (iter_rest r) < 2 ^ 64) × IterYieldsInOrder T };
+
+    fn into_iter(self) -> Iter<'a, T> {
+        self.as_slice().iter()
+    }
+}
