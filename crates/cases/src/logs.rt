@@ -47,6 +47,7 @@ impl Log {
         let mut items = Vec::new(heap);
         let mut reader = LogReader::new(bytes);
         let mut place = Item::Marked(Mark { time: 0 });
+        // No `for` over an iterator of the items: its last answer would be none, and not the end.
         let end = loop {
             if let Err(end) = reader.take(&mut place) {
                 break end;
