@@ -1,96 +1,94 @@
 // Cases of logs: the bytes in hex, a tab, and the items and the end that they mean.
-use crate::hex;
-use items::cause::End;
-use items::item::{Item, Mark, Reading};
+ghost use Rattle.std.specs.Prelude.{◌≡◌, IfOk};
+ghost use Rattle.sources.specs.Logs.{log};
+
+use hex::FromHexError;
+use items::cause::{End, Fault};
+use items::item::{Item, Mark};
 use items::source::Source;
 use log_laws::check;
 use sources::reader::LogReader;
 use std::alloc::{AllocError, Global};
+use std::fmt;
 
-fn reading(heap: Global, r: Reading) -> Result<String, AllocError> {
-    let time = r.time;
-    let mask = r.mask;
-    let mut text = format!(in heap; "R {time} {mask} ")?;
-    for (i, v) in r.values.iter().enumerate() {
-        if i > 0 {
-            text.push_str(",")?;
-        }
-        text.push_str(v.to_string(heap)?.as_str())?;
-    }
-    text.push_str("; ")?;
-    Ok(text)
-}
+// An item as the cases write it.
+#[derive(Clone, Copy)]
+struct Told(Item);
 
-fn item(heap: Global, item: Item) -> Result<String, AllocError> {
-    match item {
-        Item::Marked(m) => {
-            let time = m.time;
-            format!(in heap; "M {time}; ")
-        }
-        Item::Read(r) => reading(heap, r),
-    }
-}
-
-fn end(heap: Global, end: End) -> Result<String, AllocError> {
-    match end {
-        End::Dry => String::from_str(heap, "dry"),
-        End::Broken(fault) => {
-            let number = fault.cause.number();
-            let place = fault.place;
-            format!(in heap; "fault {number} {place}")
-        }
-    }
-}
-
-// What was read of a log: its text, how many items it has, and its end.
-#[derive(Drop)]
-struct Read {
-    text: String,
-    items: usize,
-    end: End,
-}
-
-// What the reader gives of the bytes. A log has no more items than bytes.
-fn told(heap: Global, bytes: &[u8]) -> Result<Read, AllocError> {
-    let mut text = String::new(heap);
-    let mut reader = LogReader::new(bytes);
-    let mut place = Item::Marked(Mark { time: 0 });
-    for items in 0..bytes.len().saturating_add(1) {
-        match reader.take(&mut place) {
-            Ok(()) => text.push_str(item(heap, place)?.as_str())?,
-            Err(e) => {
-                text.push_str(end(heap, e)?.as_str())?;
-                return Ok(Read {
-                    text,
-                    items,
-                    end: e,
-                });
+impl fmt::Display for Told {
+    fn fmt<W: fmt::Write>(&self, f: &mut fmt::Formatter<W>) -> fmt::Result {
+        match self.0 {
+            Item::Marked(mark) => write!(f, "M {}", mark.time),
+            Item::Read(reading) => {
+                write!(f, "R {} {} ", reading.time, reading.mask)?;
+                for (i, value) in reading.values.iter().enumerate() {
+                    let comma = if i == 0 { "" } else { "," };
+                    write!(f, "{comma}{value}")?;
+                }
+                Ok(())
             }
         }
     }
-    Ok(Read {
-        text,
-        items: 0,
-        end: End::Dry,
-    })
 }
 
-// The check of the whole log says the same.
-fn checked(bytes: &[u8], items: usize, end: End) -> bool {
-    match check(bytes) {
-        Ok(n) => n == items && end == End::Dry,
-        Err(fault) => end == End::Broken(fault),
+// The items of a log, and its end.
+#[derive(Drop)]
+struct Log {
+    items: Vec<Item>,
+    end: End,
+}
+
+impl Log {
+    // Takes all items of a log.
+    fn read(heap: Global, bytes: &[u8]) -> Result<Log, AllocError>
+        ensures items { IfOk result (λ l. l.items.items ≡ (log bytes.now).waits) }
+        ensures end { IfOk result (λ l. l.end ≡ (log bytes.now).end) }
+    {
+        let mut items = Vec::new(heap);
+        let mut reader = LogReader::new(bytes);
+        let mut place = Item::Marked(Mark { time: 0 });
+        // No `for` over an iterator of the items: its last answer would be none, and not the end.
+        let end = loop {
+            if let Err(end) = reader.take(&mut place) {
+                break end;
+            }
+            items.push(place)?;
+        };
+        Ok(Log { items, end })
+    }
+
+    // What a check of the log has to answer.
+    fn checked(&self) -> Result<usize, Fault> {
+        match self.end {
+            End::Dry => Ok(self.items.len()),
+            End::Broken(fault) => Err(fault),
+        }
     }
 }
 
-// The bytes of the line mean what the line says.
-pub fn agrees(heap: Global, line: &str) -> Result<bool, AllocError> {
-    let Some((text, wanted)) = line.split_once('\t') else {
+impl fmt::Display for Log {
+    fn fmt<W: fmt::Write>(&self, f: &mut fmt::Formatter<W>) -> fmt::Result {
+        for item in &self.items {
+            write!(f, "{}; ", Told(*item))?;
+        }
+        match self.end {
+            End::Dry => write!(f, "dry"),
+            End::Broken(fault) => write!(f, "fault {} {}", fault.cause.number(), fault.place),
+        }
+    }
+}
+
+// The bytes of the case mean what the case says, to the reader and to the check.
+pub fn agrees(heap: Global, case: &str) -> anyhow::Result<bool> {
+    let Some((digits, wanted)) = case.split_once('\t') else {
         return Ok(false);
     };
-    let Some(bytes) = hex::bytes(heap, text)? else {
-        return Ok(false);
+    let bytes = match hex::decode(heap, digits) {
+        Ok(bytes) => bytes,
+        Err(e @ FromHexError::OutOfMemory) => return Err(e.into()),
+        Err(_) => return Ok(false),
     };
-    let read = told(heap, bytes.as_slice())?;
-    Ok(read.text.as_str() == wanted && checked(bytes.as_slice(), read.items, read.end))
+    let bytes = bytes.as_slice();
+    let log = Log::read(heap, bytes)?;
+    Ok(log.to_string(heap)?.as_str() == wanted && check(bytes) == log.checked())
 }

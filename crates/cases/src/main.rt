@@ -1,7 +1,6 @@
 // Runs cases that were made apart from this code, and prints how many agree.
 #![tactic(auto)]
 
-mod hex;
 mod logs;
 
 use std::fs;
@@ -9,16 +8,17 @@ use std::fs;
 fn main(rt: HostRuntime) -> anyhow::Result<()> {
     let heap = rt.alloc();
     let text = fs::read_to_string(&rt, "logs.txt")?;
-    let mut count = 0usize;
-    let mut agreeing = 0usize;
-    for line in text.as_str().lines() {
-        count = count.saturating_add(1);
-        if logs::agrees(heap, line)? {
-            agreeing = agreeing.saturating_add(1);
-        } else {
-            println!(rt; "differs: {line}")?;
+    let cases = text.as_str();
+    let verdicts: Vec<bool> = cases
+        .lines()
+        .map(|case| logs::agrees(heap, case))
+        .try_collect(heap)?;
+    for (case, agrees) in cases.lines().zip(&verdicts) {
+        if !*agrees {
+            println!(rt; "differs: {case}")?;
         }
     }
-    println!(rt; "logs: {agreeing} of {count} agree")?;
+    let agreeing = verdicts.iter().filter(|agrees| **agrees).count();
+    println!(rt; "logs: {agreeing} of {} agree", verdicts.len())?;
     Ok(())
 }

@@ -1,26 +1,24 @@
 // Reads files that have to be short.
 #![tactic(auto)]
 
-ghost use Rattle.std.specs.Prelude.{◌≤◌, IfOk, vec_len};
+ghost use Rattle.std.specs.Prelude.{◌≡◌, ◌<◌, ◌≤◌, length, IfOk, IfSome, IsErrOf, vec_len};
 
 use std::alloc::{AllocError, Global};
 use std::fs::File;
+use std::io;
 use std::io::Read;
-use std::{fmt, io};
+use std::rt::Files;
+use thiserror::Error;
 
 // The most bytes that a table or a log given to a program may have.
 pub const LIMIT: usize = 32768;
 
-#[derive(Debug, Drop)]
+#[derive(Debug, Drop, Error)]
 pub enum Unread {
+    #[error("more than {LIMIT} bytes")]
     TooLarge,
-    Failed(io::Error),
-}
-
-impl From<io::Error> for Unread {
-    fn from(e: io::Error) -> Unread {
-        Unread::Failed(e)
-    }
+    #[error(transparent)]
+    Failed(#[from] io::Error),
 }
 
 impl From<AllocError> for Unread {
@@ -29,32 +27,26 @@ impl From<AllocError> for Unread {
     }
 }
 
-impl fmt::Display for Unread {
-    fn fmt<W: fmt::Write>(&self, f: &mut fmt::Formatter<W>) -> fmt::Result {
-        match self {
-            Unread::TooLarge => write!(f, "more than {LIMIT} bytes"),
-            Unread::Failed(e) => write!(f, "{e}"),
-        }
+// All bytes of a reader that has at most LIMIT of them. Of a longer one no more than LIMIT + 1 are read.
+fn read_from<R: Read + Drop>(heap: Global, reader: R) -> Result<Vec<u8>, Unread>
+    ensures few { IfOk result (λ v. vec_len v ≤ LIMIT) }
+    ensures whole { IfOk result (λ v. IfSome (R.remaining reader) (λ bytes. v.items ≡ bytes)) }
+    ensures long { IsErrOf result Unread.TooLarge → IfSome (R.remaining reader) (λ bytes. LIMIT < length bytes) }
+{
+    let mut bytes = Vec::new(heap);
+    reader
+        .take(LIMIT as u64 + 1)
+        .read_to_end(&mut bytes)
+        .map_err(Unread::Failed)?;
+    if bytes.len() > LIMIT {
+        return Err(Unread::TooLarge);
     }
+    Ok(bytes)
 }
 
-// The bytes of a file that has at most LIMIT of them. No more than one part beyond that is read of a longer one.
-pub fn read(rt: &HostRuntime, path: &str) -> Result<Vec<u8>, Unread>
-    ensures { IfOk result (λ v. vec_len v ≤ 32768) }
+// The bytes of a file that has at most LIMIT of them.
+pub fn read<R: Files + AllocGlobal>(rt: &R, path: &str) -> Result<Vec<u8>, Unread>
+    ensures { IfOk result (λ v. vec_len v ≤ LIMIT) }
 {
-    let heap = rt.alloc();
-    let mut file = File::open(rt, path)?;
-    let mut bytes = Vec::new(heap);
-    let mut part = [0u8; 4096];
-    for _ in 0..=LIMIT {
-        let n = file.read(&mut part)?;
-        if n == 0 {
-            return Ok(bytes);
-        }
-        if n > LIMIT - bytes.len() {
-            return Err(Unread::TooLarge);
-        }
-        bytes.extend_from_slice(&part[0..n])?;
-    }
-    Err(Unread::TooLarge)
+    read_from(rt.alloc(), File::open(rt, path)?)
 }

@@ -1,18 +1,14 @@
 -- Rows that hold items.
-use Rattle.std.specs.Prelude.{◌≡◌, ℕ, ◌^◌, ◌<◌, Bool, true, not, ◌&&◌, List, map, ◌==◌, nat_lt, slice_index_or}
+use Rattle.std.specs.Prelude.{◌≡◌}
 use Rattle.items.specs.declared.item.Item.{Item}
+use Rattle.items.specs.declared.item.Item.TheVariants.{Marked}
 use Rattle.items.specs.declared.item.Row.{Row}
-use Rattle.items.specs.declared.item.Row.TheVariants.{Marked, Read}
-use Rattle.items.specs.Items.{item_of}
+use Rattle.items.specs.Items.{item_of, mark_of, row_of}
 
--- the row makes an item
-abbrev pub whole : Row → Bool
-whole (Marked time) = nat_lt time (2 ^ 40)
-whole (Read time mask values) = nat_lt time (2 ^ 40) && not (mask == 0)
+-- the row is that of an item, so that it makes this item
+abbrev pub IsRow : Row → Type 0
+IsRow row = row_of (item_of row) ≡ row
 
--- each of the first rows makes an item
-abbrev pub WholeTo : ℕ → List Row → Type 0
-WholeTo used rows = (k : ℕ) (d : Row) → k < used → whole (slice_index_or rows k d) ≡ true
-
-abbrev pub items_of : List Row → List Item
-items_of rows = map item_of rows
+-- what stands where no item is kept
+abbrev pub blank : Item
+blank = Marked (mark_of 0)

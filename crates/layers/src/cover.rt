@@ -28,13 +28,9 @@ impl<S: Source> Source for Cover<S> {
     ghost queues = { λ c. S.Source.queues c.below };
 
     fn take(&mut self, place: &mut Item) -> Result<(), End> {
-        match self.below.take(place) {
-            Ok(()) => {
-                *place = place.cut(self.mask);
-                Ok(())
-            }
-            Err(end) => Err(end.farther()),
-        }
+        self.below.take(place).map_err(End::farther)?;
+        *place = place.cut(self.mask);
+        Ok(())
     }
 
     fn fill_queue(&mut self, which: usize, n: usize) -> Option<usize> {

@@ -2,7 +2,9 @@
 #![tactic(auto)]
 
 pub mod cover;
-mod rows;
+mod port;
+mod queue;
+mod stored;
 
-pub use rows::port::Port;
-pub use rows::queue::Queue;
+pub use port::Port;
+pub use queue::Queue;

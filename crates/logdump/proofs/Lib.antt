@@ -1,2 +1,1 @@
-pub mod Dumping
-pub mod Lines
+pub mod Inputs

@@ -4,10 +4,11 @@
 mod dump;
 mod text;
 
+use std::rt::Env;
 use std::{env, io};
 
 // The path that is given as the first argument, or `log`.
-fn path(rt: &HostRuntime) -> io::Result<String> {
+fn path(rt: &(impl Env + AllocGlobal)) -> io::Result<String> {
     match env::args(rt)?.nth(1) {
         Some(path) => Ok(path),
         None => Ok(String::from_str(rt.alloc(), "log")?),
@@ -16,13 +17,8 @@ fn path(rt: &HostRuntime) -> io::Result<String> {
 
 fn main(rt: HostRuntime) -> io::Result<()> {
     let path = path(&rt)?;
-    let path = path.as_str();
-    match files::read(&rt, path) {
-        Ok(bytes) => {
-            let text = dump::dump(rt.alloc(), bytes.as_slice())?;
-            let text = text.as_str();
-            print!(rt; "{text}")
-        }
+    match files::read(&rt, path.as_str()) {
+        Ok(bytes) => rt.print(dump::dump(rt.alloc(), bytes.as_slice())?),
         Err(e) => {
             eprintln!(rt; "logdump: {path}: {e}")?;
             Err(io::Error::from(io::ErrorKind::InvalidInput))
