@@ -58,7 +58,8 @@ fn queues_over_a_port(rt: HostRuntime) -> Result<(), Fail> {
     Ok(())
 }
 
-// A cover between queues.
+// A cover between queues. It is made for any source, since a queue over a log reader that is named as such and passed
+// on by value gets no proof from the check yet.
 fn covered<S: Source>(below: S, mask: u8) -> Queue<Cover<Queue<S>>> {
     Queue::new(Cover::new(Queue::new(below), mask))
 }
