@@ -3,8 +3,8 @@ use Rattle.std.proofs.Common.{◌≡◌, ℕ, ◌+◌, ◌-◌, ◌<◌, ◌≤�
 use Rattle.std.proofs.lemmas.List.{append_assoc, append-nil, drop-drop, length-append, length-drop, length-take-le, take-append-drop, take_more, drop_more}
 use Rattle.items.specs.declared.cause.End.{End}
 use Rattle.items.specs.declared.item.Item.{Item}
-use Rattle.items.specs.Sources.{Filled, Gave, Kept, Lost, Meaning, Queued, RoomAfter, Took, TookFrom, farther, moved}
-use Rattle.items.proofs.Taking.{first_taken, room_taken}
+use Rattle.items.specs.Sources.{Filled, Gave, Kept, Lost, Meaning, Queued, Took, farther, moved}
+use Rattle.items.proofs.Taking.{first_taken, none_taken, room_taken, stays}
 use Rattle.layers.specs.Layers.{queue, queued}
 
 lost_none : (most : ℕ) (xs : List Item) → Lost most xs xs
@@ -28,11 +28,6 @@ gave_more k [] (q ∷ qs) rs a b = absurd a
 gave_more k (p ∷ ps) [] rs a b = absurd a
 gave_more k (p ∷ ps) (q ∷ qs) [] a b = b
 gave_more k (p ∷ ps) (q ∷ qs) (r ∷ rs) a b = (lost_more k p.own q.own r.own a.0 b.0, lost_more k p.below q.below r.below a.1 b.1, gave_more k ps qs rs a.2 b.2)
-
--- where the end was answered, nothing waited, and nothing waits
-took_nothing : (waits : List Item) (room after : ℕ) (end e : End) (place left : Item) (rest : List Item) → TookFrom waits end place (Err e) rest left → RoomAfter waits room after → (waits ≡ []) × (rest ≡ waits) × (room ≤ after)
-took_nothing [] room after end e place left rest t r = (refl, t.1, omega arith)
-took_nothing (x ∷ xs) room after end e place left rest t r = let z : ◌≡◌ {A = ℕ} 0 1 = cc in absurd (omega arith)
 
 -- a fill of a queue, with the number that it answers
 pub record FilledQueue (n : ℕ) (own : List Item) (m : Meaning) (qs : List Queued) (answer : ℕ) (own' : List Item) (m' : Meaning) (qs' : List Queued) : Type 0 where
@@ -95,7 +90,7 @@ module _ (own : List Item) (m : Meaning) (qs : List Queued) (k : ℕ) (own' : Li
   -- nothing waits below any more
   pub moving_dry : (place left : Item) (end : End) (m'' : Meaning) (qs'' : List Queued) (n : ℕ) → k < min n (64 - length own) → Took m' place (Err end) m'' left → Gave 1 qs' qs'' → FilledQueue n own m qs k own' m'' qs''
   moving_dry place left end m'' qs'' n more t g =
-      let none = took_nothing m'.waits m'.room m''.room m'.end end place left m''.waits t.took t.room_kept in
+      let none = none_taken m' m'' place left end t in
       let all : length m.waits ≤ k = omega (arith, simp length-drop at (ap length (sym s.below_is ∙ none.0))) in
       let h = s.some in
-      moving_end m'' qs'' n (omega arith) (record { waits_same = none.1; end_same = t.end_same; room_kept = none.2 }) (gave_more k qs qs' qs'' s.gave g)
+      moving_end m'' qs'' n (omega arith) (stays m' m'' place left end t) (gave_more k qs qs' qs'' s.gave g)
