@@ -1,5 +1,5 @@
 // The queue: a layer that keeps up to 64 items of the source below.
-ghost use Rattle.std.specs.Prelude.{◌≡◌, ◌∷◌, [], Some};
+ghost use Rattle.std.specs.Prelude.{◌≡◌, ◌∷◌, []};
 ghost use Rattle.items.specs.Sources.{Kept, Filled};
 ghost use Rattle.layers.specs.Layers as layers;
 

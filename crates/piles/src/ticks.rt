@@ -1,6 +1,5 @@
 // A clock that ticks so many times, a millisecond apart.
-ghost use Rattle.std.specs.Prelude.{◌≡◌, ◌+◌, ◌^◌, ◌<◌, ◌≤◌, [], Ok};
-ghost use Rattle.items.specs.Sources.{Took};
+ghost use Rattle.std.specs.Prelude.{◌≡◌, ◌+◌, ◌^◌, ◌≤◌, []};
 ghost use Rattle.piles.specs.Ticking.{ticking, ticking_within};
 
 use items::cause::End;
