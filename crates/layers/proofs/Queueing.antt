@@ -46,9 +46,9 @@ pub record Moving (own : List Item) (m : Meaning) (qs : List Queued) (k : ℕ) (
 pub moving_none : (own : List Item) (m : Meaning) (qs : List Queued) → Moving own m qs 0 own m qs
 moving_none own m qs = record { some = omega arith; own_is = sym (append-nil own); below_is = refl; end_same = refl; room_kept = omega arith; gave = gave_none 0 qs }
 
-module _ (own : List Item) (m : Meaning) (qs : List Queued) (k : ℕ) (own' : List Item) (m' : Meaning) (qs' : List Queued) (s : Moving own m qs k own' m' qs') where
-  pub moving_more : (place left : Item) (own'' : List Item) (m'' : Meaning) (qs'' : List Queued) → Took m' place (Ok tt) m'' left → Gave 1 qs' qs'' → own'' ≡ own' ++ left ∷ [] → Moving own m qs (k + 1) own'' m'' qs''
-  moving_more place left own'' m'' qs'' t g o =
+module _ {own : List Item} {m : Meaning} {qs : List Queued} {k : ℕ} {own' : List Item} {m' : Meaning} {qs' : List Queued} (s : Moving own m qs k own' m' qs') where
+  pub moving_more : {place left : Item} {m'' : Meaning} (own'' : List Item) (qs'' : List Queued) → Took m' place (Ok tt) m'' left → Gave 1 qs' qs'' → own'' ≡ own' ++ left ∷ [] → Moving own m qs (k + 1) own'' m'' qs''
+  moving_more {place} {left} {m''} own'' qs'' t g o =
       let w = first_taken m' m'' place left t in
       let r = room_taken m' m'' place left t in
       let at : drop k m.waits ≡ left ∷ m''.waits = sym s.below_is ∙ w in
@@ -88,8 +88,8 @@ module _ (own : List Item) (m : Meaning) (qs : List Queued) (k : ℕ) (own' : Li
       (moving_end m' qs' n (omega arith) (record { waits_same = refl; end_same = refl; room_kept = omega arith }) (gave_more k qs qs' qs' s.gave (gave_none 1 qs')))
 
   -- nothing waits below any more
-  pub moving_dry : (place left : Item) (end : End) (m'' : Meaning) (qs'' : List Queued) (n : ℕ) → k < min n (64 - length own) → Took m' place (Err end) m'' left → Gave 1 qs' qs'' → FilledQueue n own m qs k own' m'' qs''
-  moving_dry place left end m'' qs'' n more t g =
+  pub moving_dry : {place left : Item} {m'' : Meaning} (end : End) (qs'' : List Queued) (n : ℕ) → k < min n (64 - length own) → Took m' place (Err end) m'' left → Gave 1 qs' qs'' → FilledQueue n own m qs k own' m'' qs''
+  moving_dry {place} {left} {m''} end qs'' n more t g =
       let none = none_taken m' m'' place left end t in
       let all : length m.waits ≤ k = omega (arith, simp length-drop at (ap length (sym s.below_is ∙ none.0))) in
       let h = s.some in
