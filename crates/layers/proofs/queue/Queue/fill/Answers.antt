@@ -16,10 +16,10 @@ loop-moved-preserved g c =
 pub returns-in-Err-clause-filled : goal.returns-in-Err-clause-filled
 returns-in-Err-clause-filled g c =
     let more : c.loop-moved.moved < min c.args.n (64 - length c.args.self.now.own) = search rules in
-    (moving_dry c.loop-moved.invariant c.in-Err.field-0 _ c.args.n more c.in-Err.ensures.took c.in-Err.ensures.gave).filled
+    moving_dry c.loop-moved.invariant c.in-Err.field-0 _ c.args.n more c.in-Err.ensures.took c.in-Err.ensures.gave
 
 pub returns-clause-filled : goal.returns-clause-filled
 returns-clause-filled g c =
     let all : c.loop-moved.moved ≡ c.min-most.result = omega arith in
     let most : c.min-most.result ≡ min c.args.n (64 - length c.args.self.now.own) = search rules in
-    (moving_full c.loop-moved.invariant c.args.n c.min-most.result all most).filled
+    moving_full c.loop-moved.invariant c.args.n c.min-most.result all most
