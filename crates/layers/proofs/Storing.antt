@@ -30,15 +30,26 @@ unfolding mark_of
 blank_row = refl
 
 -- where a place is free, what is pushed follows the others
-pub pushed_free : (n : ℕ) (x : Item) (xs : List Item) → length xs < n → pushed n x xs ≡ xs ++ x ∷ []
+pushed_free : (n : ℕ) (x : Item) (xs : List Item) → length xs < n → pushed n x xs ≡ xs ++ x ∷ []
 pushed_free n x xs free = take_all n (xs ++ x ∷ []) (omega (arith, length-append xs (x ∷ [])))
 
 -- else it is as if nothing was
 pushed_full : (n : ℕ) (x : Item) (xs : List Item) → length xs ≡ n → pushed n x xs ≡ xs
 pushed_full n x xs full = take-append-le n xs (x ∷ []) (omega arith) ∙ take_all n xs (omega arith)
 
--- a push is a put
-pub port_put : (x : Item) (waits : List Item) → length waits ≤ 32 → port (pushed 32 x waits) ≡ put (port waits) x
+module _ (n : ℕ) (x y : Item) (xs ys : List Item) (pushes : ys ≡ pushed n y xs) (stored : y ≡ x) where
+  pushed_is : ys ≡ pushed n x xs
+  pushed_is = pushes ∙ ap (λ z. pushed n z xs) stored
+
+  -- an item that was stored follows the others
+  pub stored_last : length xs < n → ys ≡ xs ++ x ∷ []
+  stored_last free = pushed_is ∙ pushed_free n x xs free
+
+  -- no more are stored than there are places
+  pub stored_few : length ys ≤ n
+  stored_few = omega (arith, ap length pushes, length-take n (xs ++ y ∷ []))
+
+port_put : (x : Item) (waits : List Item) → length waits ≤ 32 → port (pushed 32 x waits) ≡ put (port waits) x
 port_put x waits few =
     cond_both (eqb (32 - length waits) 0) (port waits) (appended (port waits) x) (λ m. port (pushed 32 x waits) ≡ m)
     (λ e. ap port (pushed_full 32 x waits (omega (arith, eqb-true (32 - length waits) 0 e))))
@@ -47,6 +58,6 @@ port_put x waits few =
     let room : 32 - length (waits ++ x ∷ []) ≡ 32 - length waits - 1 = omega (arith, length-append waits (x ∷ [])) in
     ap port (pushed_free 32 x waits free) ∙ ap (λ r. record { waits = waits ++ x ∷ []; end = Dry; room = r }) room)
 
--- and leaves no more than there are places
-pub pushed_few : (n : ℕ) (x : Item) (xs : List Item) → length (pushed n x xs) ≤ n
-pushed_few n x xs = omega (arith, length-take n (xs ++ x ∷ []))
+-- to store an item in a port is to put it
+pub port_stored : (x y : Item) (waits waits' : List Item) → waits' ≡ pushed 32 y waits → y ≡ x → length waits ≤ 32 → port waits' ≡ put (port waits) x
+port_stored x y waits waits' pushes stored few = ap port (pushed_is 32 x y waits waits' pushes stored) ∙ port_put x waits few

@@ -1,5 +1,5 @@
 // The queue: a layer that keeps up to 64 items of the source below.
-ghost use Rattle.std.specs.Prelude.{◌≡◌, ◌∷◌, [], Some};
+ghost use Rattle.std.specs.Prelude.{◌≡◌, ◌∷◌, []};
 ghost use Rattle.items.specs.Sources.{Kept, Filled};
 ghost use Rattle.layers.specs.Layers as layers;
 
@@ -21,7 +21,8 @@ pub struct Queue<S> {
 impl<S: Source> Queue<S> {
     pub fn new(below: S) -> Queue<S>
         ensures means { layers.queue result.own (S.Source.meaning result.below) ≡ layers.queue [] (S.Source.meaning below) }
-        ensures same { (result.own ≡ []) × (result.below ≡ below) }
+        ensures none { result.own ≡ [] }
+        ensures same { result.below ≡ below }
     {
         Queue {
             below,

@@ -1,6 +1,6 @@
 // Piles of layers, tried.
 use crate::ticks::Ticks;
-use items::cause::{End, Refusal};
+use items::cause::{Cause, End, Fault, Refusal};
 use items::feed::Feed;
 use items::item::{Item, Mark, Row};
 use items::source::Source;
@@ -9,20 +9,15 @@ use layers::{Port, Queue};
 use sources::reader::LogReader;
 use std::test::Fail;
 
-fn mark(time: u64) -> Result<Item, Fail> {
-    match Row::Marked(time).item() {
-        Ok(item) => Ok(item),
-        Err(_) => Err(Fail::new("no time")),
-    }
+fn mark(time: u64) -> Result<Item, Cause> {
+    Mark::new(time).map(Item::Marked)
 }
 
 // The time of the next item, or the end.
 fn next<S: Source>(source: &mut S) -> Result<u64, End> {
     let mut place = Item::Marked(Mark { time: 0 });
-    match source.take(&mut place) {
-        Ok(()) => Ok(place.time()),
-        Err(end) => Err(end),
-    }
+    source.take(&mut place)?;
+    Ok(place.time())
 }
 
 #[test]
@@ -63,6 +58,12 @@ fn queues_over_a_port(rt: HostRuntime) -> Result<(), Fail> {
     Ok(())
 }
 
+// A cover between queues. It is made for any source, since a queue over a log reader that is named as such and passed
+// on by value gets no proof from the check yet.
+fn covered<S: Source>(below: S, mask: u8) -> Queue<Cover<Queue<S>>> {
+    Queue::new(Cover::new(Queue::new(below), mask))
+}
+
 // A reading of inputs 0 and 1 at 5, one of input 1 at 6, and a field that is cut short.
 const LOG: [u8; 37] = [
     16, 17, 0, 5, 0, 0, 0, 0, 0, 0, 0, 3, 7, 0, 0, 0, 9, 0, 0, 0, 16, 13, 0, 6, 0, 0, 0, 0, 0, 0,
@@ -71,35 +72,22 @@ const LOG: [u8; 37] = [
 
 #[test]
 fn a_cover_between_queues_over_a_log(rt: HostRuntime) -> Result<(), Fail> {
-    let mut pile = Queue::new(Cover::new(Queue::new(LogReader::new(&LOG)), 1));
+    let mut pile = covered(LogReader::new(&LOG), 1);
     assert_eq!(rt; pile.fill_queue(1, 1), Some(1));
     assert_eq!(rt; pile.fill_queue(0, 9), Some(2));
     let mut place = Item::Marked(Mark { time: 0 });
-    assert!(rt; pile.take(&mut place).is_ok());
-    match place {
-        Item::Read(r) => {
-            assert_eq!(rt; r.time, 5);
-            assert_eq!(rt; r.mask, 1);
-            let values = r.values;
-            assert_eq!(rt; values[0], 7);
-            assert_eq!(rt; values[1], 0);
-        }
-        Item::Marked(_) => return Err(Fail::new("a mark")),
-    }
-    assert!(rt; pile.take(&mut place).is_ok());
-    match place {
-        Item::Read(_) => return Err(Fail::new("a reading")),
-        Item::Marked(m) => assert_eq!(rt; m.time, 6),
-    }
-    match pile.take(&mut place) {
-        Err(End::Broken(fault)) => {
-            assert_eq!(rt; fault.cause.number(), 11);
-            assert_eq!(rt; fault.place, 36);
-            assert_eq!(rt; fault.distance, 3);
-            Ok(())
-        }
-        _ => Err(Fail::new("no fault")),
-    }
+    pile.take(&mut place)?;
+    assert_eq!(rt; place.row(), Row::Read(5, 1, [7, 0, 0, 0, 0, 0, 0, 0]));
+    pile.take(&mut place)?;
+    assert_eq!(rt; place.row(), Row::Marked(6));
+    let fault = Fault {
+        cause: Cause::Cut,
+        place: 36,
+        distance: 3,
+    };
+    assert_eq!(rt; pile.take(&mut place), Err(End::Broken(fault)));
+    assert_eq!(rt; fault.cause.number(), 11);
+    Ok(())
 }
 
 #[test]

@@ -1,13 +1,10 @@
 // A clock that ticks so many times, a millisecond apart.
-ghost use Rattle.std.specs.Prelude.{◌≡◌, ◌+◌, ◌^◌, ◌<◌, ◌≤◌, [], Ok};
-ghost use Rattle.items.specs.Sources.{Took};
+ghost use Rattle.std.specs.Prelude.{◌≡◌, ◌+◌, ◌^◌, ◌≤◌, []};
 ghost use Rattle.piles.specs.Ticking.{ticking, ticking_within};
 
 use items::cause::End;
-use items::item::{Item, Mark};
+use items::item::{Item, Mark, TIMES};
 use items::source::Source;
-
-const TIMES: u64 = 1 << 40;
 
 #[derive(Clone, Copy)]
 pub struct Ticks {
@@ -27,15 +24,6 @@ impl Ticks {
             Ticks { next: 0, left: 0 }
         }
     }
-
-    fn tick(&mut self, place: &mut Item)
-        requires { 0 < self.old.left }
-        ensures { Took (ticking self.old.next self.old.left) place.old (Ok tt) (ticking self.new.next self.new.left) place.new }
-    {
-        *place = Item::Marked(Mark { time: self.next });
-        self.next += 1;
-        self.left -= 1;
-    }
 }
 
 impl Source for Ticks {
@@ -47,7 +35,9 @@ impl Source for Ticks {
         if self.left == 0 {
             return Err(End::Dry);
         }
-        self.tick(place);
+        *place = Item::Marked(Mark { time: self.next });
+        self.next += 1;
+        self.left -= 1;
         Ok(())
     }
 
