@@ -13,7 +13,7 @@ use Rattle.table_laws.proofs.Walks.{Tells, tells, walk_all}
 
 -- no value is a refusal
 pub apart : {X Y : Type 0} {e : Refusal} {x : X} → Err e ≡ Ok x → Y
-apart p = let z : ◌≡◌ {A = ℕ} 0 1 = cc in absurd (omega arith)
+apart p = absurd cc
 
 -- FIELDS AND TABLES
 

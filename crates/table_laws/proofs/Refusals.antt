@@ -20,7 +20,8 @@ use Rattle.table_laws.specs.Walks.{Breaks, Passes, after, cut, misplaced, missin
 use Rattle.table_laws.specs.Whole.{is_field}
 use Rattle.table_laws.proofs.Acceptance.{rules_say}
 use Rattle.table_laws.proofs.Chains.{circle_found, circle_free}
-use Rattle.table_laws.proofs.Faults.{octets_front, tag_known, told}
+use Rattle.table_laws.proofs.Bytes.{octets_front}
+use Rattle.table_laws.proofs.Faults.{tag_known, told}
 use Rattle.table_laws.proofs.Keeping.{output_from, output_says, trigger_from, trigger_says}
 use Rattle.table_laws.proofs.Orders.{Whole, fields_pass}
 use Rattle.table_laws.proofs.Readings.{apart, kept, kept_fields, read_fields, tells_table}

@@ -1,7 +1,8 @@
 -- The parts of a table: tests against sentences.
 use Rattle.std.proofs.Common.{◌≡◌, ℕ, zero, suc, ◌+◌, ◌-◌, ◌^◌, ◌<◌, ◌≤◌, Bool, true, ◌&&◌, ltb, leb, List, [], ◌∷◌, length, get_or, ℤ, pos, negsuc, sym, refl, ◌∙◌, arith, w32, SFits}
 use Rattle.std.proofs.lemmas.Bool.{and_from, and_parts, eq-eqb, eqb-true, le-leb, leb-true, lt-ltb, ltb-true}
-use Rattle.std.specs.List.{AllByRecursion as All}
+use Rattle.std.proofs.lemmas.List.Elements.{All-cons, All-head, All-nil, All-tail}
+use Rattle.std.specs.List.{All}
 use Rattle.tables.specs.declared.op.Op.{Op}
 use Rattle.tables.specs.declared.op.Op.TheVariants.{Number, Now, Past, Held, Window, Add, Subtract, Multiply, Less, Equal, Choose}
 use Rattle.tables.specs.declared.op.Pace.{Pace}
@@ -11,7 +12,7 @@ use Rattle.tables.specs.Reading.{fits, takes, within}
 use Rattle.tables.specs.Rules.{all}
 use Rattle.tables.specs.Sound.{is_byte, is_op, is_output, is_pace, is_text, is_trigger, is_value}
 use Rattle.table_laws.specs.Contents.{FieldInRange}
-use Rattle.table_laws.specs.Lawful.{InRange, OutputInRange, PaceInRange, Stacked, Text, WholeOutput, WholeTable, WholeTrigger}
+use Rattle.table_laws.specs.Lawful.{Between, InRange, OutputInRange, PaceInRange, Stacked, Text, WholeOutput, WholeTable, WholeTrigger}
 use Rattle.table_laws.proofs.Contents.{Ranged, RangedField, output_from, output_parts, within_from, within_parts}
 use Rattle.table_laws.proofs.Orders.{Whole}
 use Rattle.table_laws.proofs.Parts.{value_fits}
@@ -19,23 +20,23 @@ use Rattle.table_laws.proofs.Parts.{value_fits}
 -- LISTS
 
 pub all_says : {X : Type 0} (test : X → Bool) (P : X → Type 0) → ((x : X) → test x ≡ true → P x) → (xs : List X) → all test xs ≡ true → All P xs
-all_says test P h [] e = tt
-all_says test P h (x ∷ xs) e = let p = and_parts (test x) (all test xs) e in (h x p.0, all_says test P h xs p.1)
+all_says test P h [] e = All-nil P
+all_says test P h (x ∷ xs) e = let p = and_parts (test x) (all test xs) e in All-cons P x xs (h x p.0) (all_says test P h xs p.1)
 
 pub all_from : {X : Type 0} (test : X → Bool) (P : X → Type 0) → ((x : X) → P x → test x ≡ true) → (xs : List X) → All P xs → all test xs ≡ true
 all_from test P h [] p = refl
-all_from test P h (x ∷ xs) p = and_from (test x) (all test xs) (h x p.0) (all_from test P h xs p.1)
+all_from test P h (x ∷ xs) p = and_from (test x) (all test xs) (h x (All-head P x xs p)) (all_from test P h xs (All-tail P x xs p))
 
 -- TEXTS AND OPERANDS
 
 text_says : (low most : ℕ) (s : List ℕ) → is_text low most s ≡ true → Text low most s
 text_says low most s e =
     let p = and_parts (within 1 most (length s)) (all (within low 126) s) e in
-    record { long = within_parts 1 most (length s) p.0; letters = all_says (within low 126) _ (within_parts low 126) s p.1 }
+    record { long = within_parts 1 most (length s) p.0; letters = all_says (within low 126) (Between low 126) (within_parts low 126) s p.1 }
 
 text_from : (low most : ℕ) (s : List ℕ) → Text low most s → is_text low most s ≡ true
 text_from low most s p =
-    and_from (within 1 most (length s)) (all (within low 126) s) (within_from 1 most (length s) p.long.0 p.long.1) (all_from (within low 126) _ (λ b h. within_from low 126 b h.0 h.1) s p.letters)
+    and_from (within 1 most (length s)) (all (within low 126) s) (within_from 1 most (length s) p.long.0 p.long.1) (all_from (within low 126) (Between low 126) (λ b h. within_from low 126 b h.0 h.1) s p.letters)
 
 value_from : (v : ℤ) → SFits w32 v → is_value v ≡ true
 value_from (pos n) f = lt-ltb n (2 ^ 31) f.sfits

@@ -9,18 +9,12 @@ use Rattle.tables.specs.declared.op.Pace.{Pace}
 use Rattle.tables.specs.declared.op.Pace.TheVariants.{Event, Every}
 use Rattle.tables.specs.Kinds.{Said, input, life, output, trigger}
 use Rattle.tables.specs.Reading.{aggregate, byte, closed, content, fits, given, kind_of, operands, ops, outputs, ranged, signed, some, test, text, till, windows_in, with_ops, within, word, word_of}
+use Rattle.table_laws.proofs.Bytes.{octets_more, octets_none}
 use Rattle.table_laws.proofs.Contents.{made, within_from}
 use Rattle.table_laws.proofs.Parts.{Done, not_off}
 
-octets_none : Octets []
-octets_none i = omega arith
-
-pub octets_more : (b : ℕ) (bs : List ℕ) → b < 256 → Octets bs → Octets (b ∷ bs)
-octets_more b bs small o zero = small
-octets_more b bs small o (suc i) = o i
-
 pub ok_err : {X Y : Type 0} {x : X} {e : ℕ} → Ok x ≡ Err e → Y
-ok_err h = let z : ◌≡◌ {A = ℕ} 0 1 = cc in absurd (omega arith)
+ok_err h = absurd cc
 
 same_err : {X : Type 0} {m n : ℕ} → ◌≡◌ {A = Result X ℕ} (Err m) (Err n) → m ≡ n
 same_err h = cc
