@@ -76,7 +76,7 @@ impl From<UnknownTag> for Flaw {
     }
 }
 
-#[derive(Clone, Copy)]
+#[derive(Clone, Copy, PartialEq, Eq, Debug)]
 pub enum Field<'a> {
     // The life: how many entries a monitor may make.
     Life(u32),
