@@ -3,6 +3,7 @@ use Rattle.std.proofs.Common.{◌≡◌, ℕ, zero, suc, ◌≤◌, Bool, true, 
 use Rattle.std.proofs.lemmas.List.{append_assoc, append-nil}
 use Rattle.std.proofs.lemmas.Bool.{false≢true}
 use Rattle.log_laws.specs.Laws.{Octets}
+use Rattle.tables.proofs.Readers.{never}
 use Rattle.tables.specs.Kinds.{Said, input, life, output, trigger}
 use Rattle.tables.specs.Reading.{closed, content, fits, test}
 use Rattle.tables.specs.Tables.{Stood, admits}
@@ -44,10 +45,10 @@ stacked_done (trigger g) = tt
 
 -- where the stack rule is broken, and where it is kept
 stack_broken : (f : Said) → stacked f ≡ Err 6 → StackKept f → ⊥
-stack_broken (life n) e k = viable.ok_err e
-stack_broken (input s) e k = viable.ok_err e
-stack_broken (output o) e k = viable.ok_err (sym (ap (λ b. test b 6 (closed (output o)) []) (stack_from 0 o.ops k)) ∙ e)
-stack_broken (trigger g) e k = viable.ok_err e
+stack_broken (life n) e k = never (sym e)
+stack_broken (input s) e k = never (sym e)
+stack_broken (output o) e k = never (sym e ∙ ap (λ b. test b 6 (closed (output o)) []) (stack_from 0 o.ops k))
+stack_broken (trigger g) e k = never (sym e)
 
 stack_kept : (f g : Said) → RangedField f → stacked f ≡ Ok g → StackKept f
 stack_kept (life n) g r e = tt
