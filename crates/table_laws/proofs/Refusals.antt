@@ -92,7 +92,7 @@ keeps_says t me (trigger g) e = trigger_says t g e
 keeps_from : (t : Table) (me : ℕ) (f : Said) → is_field f ≡ true → FieldKeeps t me f → keeps t me f ≡ true
 keeps_from t me (life n) w h = refl
 keeps_from t me (input s) w h = refl
-keeps_from t me (output o) w h = output_from t me o (sentences.output_says o w).parts.period h
+keeps_from t me (output o) w h = output_from t me o ((sentences.output_decides o).0 w).parts.period h
 keeps_from t me (trigger g) w h = trigger_from t g h
 
 kept_says : (t : Table) (me : ℕ) (fs : List Said) → kept t me fs ≡ true → AllKeep t me fs
