@@ -1,6 +1,6 @@
 -- What outputs an output asks: the list against the sentence.
 use Rattle.std.proofs.Common.{◌≡◌, ℕ, ◌+◌, ◌-◌, ◌<◌, Bool, true, false, cond, not, ◌&&◌, eqb, leb, List, [], ◌∷◌, length, Contains, sym, refl, subst, inl, inr, ⊎_elim, arith}
-use Rattle.std.proofs.lemmas.Bool.{and_from, and_parts, eqb-false, false≢true, le-leb, leb-true, ne_eqb, not_from_false, not-true}
+use Rattle.std.proofs.lemmas.Bool.{and_from, and_parts, false≢true, le-leb, leb-true}
 use Rattle.std.proofs.lemmas.List.Elements.{All-contains, Contains-append_cases, Contains-append_left, Contains-append_right}
 use Rattle.tables.specs.declared.op.Op.{Op}
 use Rattle.tables.specs.declared.op.Op.TheVariants.{Number, Now, Past, Held, Window, Add, Subtract, Multiply, Less, Equal, Choose}
@@ -8,6 +8,7 @@ use Rattle.tables.specs.Kinds.{Table}
 use Rattle.tables.specs.Rules.{asked, asks, other, output_at, reads}
 use Rattle.table_laws.specs.Lawful.{Asks, OpKeeps, OutputKeeps, Reads}
 use Rattle.table_laws.proofs.Members.{member_cases, member_first, member_none, member_rest}
+use Rattle.table_laws.proofs.Sentences.{differs}
 
 -- ONE STREAM
 
@@ -26,13 +27,13 @@ module _ (inputs a : ℕ) where
       let q = and_parts (leb inputs s) (not (eqb s (inputs + a))) p.0 in
       let behind = leb-true inputs s q.0 in
       let is = p.1 in
-      let apart = eqb-false s (inputs + a) (not-true (eqb s (inputs + a)) q.1) in
+      let apart = (differs s (inputs + a)).0 q.1 in
       (omega arith, λ e. apart (omega arith))
 
   other_from : (s b : ℕ) → inputs + b ≡ s → (b ≡ a → ⊥) → Contains (other inputs a s) b
   other_from s b e apart =
       cond_in (leb inputs s && not (eqb s (inputs + a))) (s - inputs) b
-      (and_from (leb inputs s) (not (eqb s (inputs + a))) (le-leb inputs s (omega arith)) (not_from_false (eqb s (inputs + a)) (ne_eqb s (inputs + a) (λ z. apart (omega arith)))))
+      (and_from (leb inputs s) (not (eqb s (inputs + a))) (le-leb inputs s (omega arith)) ((differs s (inputs + a)).1 (λ z. apart (omega arith))))
       (omega arith)
 
   -- ONE OPERATION

@@ -1,6 +1,8 @@
 -- Layers and circles.
 use Rattle.std.proofs.Common.{◌≡◌, ℕ, zero, suc, ◌+◌, ◌-◌, ◌<◌, ◌≤◌, max, Bool, true, false, ◌⊎◌, List, [], ◌∷◌, length, Contains, Some, None, Option, sym, refl, ap, ◌∙◌, subst, inl, inr, ⊎_elim, arith}
-use Rattle.std.proofs.lemmas.Bool.{and_cases, and_from, and_parts, cases_eq, false≢true, true≢false}
+use Rattle.std.proofs.lemmas.Bool.{and_cases, cases_eq, false≢true, true≢false}
+use Rattle.std.proofs.lemmas.Bool.Decides.{Decides-below_and}
+use Rattle.std.specs.Bool.{Decides}
 use Rattle.tables.specs.Kinds.{Table}
 use Rattle.tables.proofs.Circles.{has_layers_is}
 use Rattle.tables.specs.Layers.{has_layers, greatest, is_some, layer, layer_in, then}
@@ -143,13 +145,8 @@ module _ (ask : ℕ → List ℕ) where
 
 -- TABLES
 
-below_says : (f : ℕ → Bool) (n : ℕ) → below f n ≡ true → (k : ℕ) → k < n → f k ≡ true
-below_says f zero e k lt = absurd (omega arith)
-below_says f (suc n) e k lt = let p = and_parts (f n) (below f n) e in ⊎_elim (λ same. ap f same ∙ p.0) (λ other. below_says f n p.1 k (omega arith)) (cases_eq k n)
-
-below_from : (f : ℕ → Bool) (n : ℕ) → ((k : ℕ) → k < n → f k ≡ true) → below f n ≡ true
-below_from f zero h = refl
-below_from f (suc n) h = and_from (f n) (below f n) (h n (omega arith)) (below_from f n (λ k lt. h k (omega arith)))
+below_decides : (f : ℕ → Bool) (n : ℕ) → Decides (below f n) ((k : ℕ) → k < n → f k ≡ true)
+below_decides f n = Decides-below_and f (λ k. f k ≡ true) (below f) (λ k. (λ e. e, λ e. e)) refl (λ _. refl) n
 
 below_not : (f : ℕ → Bool) (n : ℕ) → below f n ≡ false → (k : ℕ) × (k < n) × (f k ≡ false)
 below_not f zero e = absurd (true≢false e)
@@ -161,7 +158,7 @@ unfolding layer_in
 layers_free t e c =
     let some = c.some in
     let first = c.goes c.start (omega arith) some in
-    let n = some_says (layer_in t (c.chain c.start)) (below_says (λ a. is_some (layer_in t a)) (length t.outputs) e (c.chain c.start) first.one) in
+    let n = some_says (layer_in t (c.chain c.start)) ((below_decides (λ a. is_some (layer_in t a)) (length t.outputs)).0 e (c.chain c.start) first.one) in
     endless (reads t) c.chain c.start c.end some c.returns (λ k from to. reads_from t (c.chain k) (c.chain (suc k)) (c.goes k from to)) 16 c.start n.0 (omega arith) some n.1
 
 pub circle_free : (t : Table) → no_circle t ≡ true → Circle t → ⊥
@@ -201,7 +198,7 @@ module _ (t : Table) (keeps : (a : ℕ) → a < length t.outputs → OutputKeeps
           (n, subst (λ d. layer (reads t) d a ≡ Some n) deep (layer_deeper (reads t) (16 - length t.outputs) (length t.outputs) a n e), (layer_between (reads t) (length t.outputs) a n e).1)
 
   pub no_circle_from : length t.outputs ≤ 16 → (Circle t → ⊥) → no_circle t ≡ true
-  no_circle_from few none = sym (has_layers_is t) ∙ below_from (λ a. is_some (layer_in t a)) (length t.outputs) (λ a lt. ap is_some (layer_low few none a lt).1)
+  no_circle_from few none = sym (has_layers_is t) ∙ (below_decides (λ a. is_some (layer_in t a)) (length t.outputs)).1 (λ a lt. ap is_some (layer_low few none a lt).1)
 
 -- a layer is above those of the outputs that are asked
 pub layer_over : (t : Table) (a n b : ℕ) → layer_in t a ≡ Some n → Contains (reads t a) b → (m : ℕ) × (layer_in t b ≡ Some m) × (m < n)

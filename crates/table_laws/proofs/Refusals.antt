@@ -22,7 +22,7 @@ use Rattle.table_laws.proofs.Acceptance.{rules_say}
 use Rattle.table_laws.proofs.Chains.{circle_found, circle_free}
 use Rattle.table_laws.proofs.Bytes.{octets_front}
 use Rattle.table_laws.proofs.Faults.{tag_known, told}
-use Rattle.table_laws.proofs.Keeping.{output_from, output_says, trigger_from, trigger_says}
+use Rattle.table_laws.proofs.Keeping.{output_from, output_says, trigger_decides}
 use Rattle.table_laws.proofs.Orders.{Whole, fields_pass}
 use Rattle.table_laws.proofs.Readings.{apart, kept, kept_fields, read_fields, tells_table}
 use Rattle.table_laws.proofs.SameReading.{read_same}
@@ -87,13 +87,13 @@ keeps_says : (t : Table) (me : ℕ) (f : Said) → keeps t me f ≡ true → Fie
 keeps_says t me (life n) e = tt
 keeps_says t me (input s) e = tt
 keeps_says t me (output o) e = output_says t me o e
-keeps_says t me (trigger g) e = trigger_says t g e
+keeps_says t me (trigger g) e = (trigger_decides t g).0 e
 
 keeps_from : (t : Table) (me : ℕ) (f : Said) → is_field f ≡ true → FieldKeeps t me f → keeps t me f ≡ true
 keeps_from t me (life n) w h = refl
 keeps_from t me (input s) w h = refl
 keeps_from t me (output o) w h = output_from t me o ((sentences.output_decides o).0 w).parts.period h
-keeps_from t me (trigger g) w h = trigger_from t g h
+keeps_from t me (trigger g) w h = (trigger_decides t g).1 h
 
 kept_says : (t : Table) (me : ℕ) (fs : List Said) → kept t me fs ≡ true → AllKeep t me fs
 kept_says t me [] e = tt

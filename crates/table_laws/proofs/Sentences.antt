@@ -1,7 +1,7 @@
 -- The parts of a table: tests against sentences.
-use Rattle.std.proofs.Common.{◌≡◌, ℕ, zero, suc, ◌+◌, ◌-◌, ◌^◌, ◌<◌, ◌≤◌, Bool, true, ◌&&◌, ltb, leb, List, [], ◌∷◌, length, get_or, ℤ, pos, negsuc, sym, refl, ◌∙◌, arith, w32, SFits}
+use Rattle.std.proofs.Common.{◌≡◌, ℕ, zero, suc, ◌+◌, ◌-◌, ◌^◌, ◌<◌, ◌≤◌, Bool, true, not, ◌&&◌, eqb, ltb, leb, List, [], ◌∷◌, length, get_or, ℤ, pos, negsuc, sym, refl, ◌∙◌, arith, w32, SFits}
 use Rattle.std.proofs.lemmas.Bool.{and_from, and_parts, eq-eqb, eqb-true, le-leb, leb-true, lt-ltb, ltb-true}
-use Rattle.std.proofs.lemmas.Bool.Decides.{Decides-and, Decides-by_and, Decides-like, Decides-ltb}
+use Rattle.std.proofs.lemmas.Bool.Decides.{Decides-and, Decides-by_and, Decides-eqb, Decides-like, Decides-ltb, Decides-not}
 use Rattle.std.specs.Bool.{Decides}
 use Rattle.std.proofs.lemmas.List.Elements.{All-cons, All-head, All-nil, All-tail}
 use Rattle.std.specs.List.{All}
@@ -32,10 +32,15 @@ all_from test P h (x ∷ xs) p = and_from (test x) (all test xs) (h x (All-head 
 pub all_decides : {X : Type 0} (test : X → Bool) (P : X → Type 0) → ((x : X) → Decides (test x) (P x)) → (xs : List X) → Decides (all test xs) (All P xs)
 all_decides test P each xs = Decides-by_and test P (all test) each refl (λ _ _. refl) xs
 
--- TEXTS AND OPERANDS
+-- NUMBERS
+
+pub differs : (s me : ℕ) → Decides (not (eqb s me)) (s ≡ me → ⊥)
+differs s me = Decides-not (eqb s me) (Decides-eqb s me)
 
 within_decides : (low high n : ℕ) → Decides (within low high n) (Between low high n)
 within_decides low high n = (within_parts low high n, λ r. within_from low high n r.0 r.1)
+
+-- TEXTS AND OPERANDS
 
 text_decides : (low most : ℕ) (s : List ℕ) → Decides (is_text low most s) (Text low most s)
 text_decides low most s =
