@@ -9,11 +9,11 @@ use Rattle.table_laws.specs.Lawful.{OutputKeeps, Sound, TriggerKeeps}
 use Rattle.table_laws.specs.Laws.{Accepted, CircleLaw, LayersLaw, ReadsBack, SoundLaw, WritesBack, WrittenOnce}
 use Rattle.table_laws.proofs.Asking.{reads_from}
 use Rattle.table_laws.proofs.Chains.{circle_free, layer_low, layer_over, layer_some, no_circle_from}
-use Rattle.table_laws.proofs.Keeping.{outputs_from, outputs_says, trigger_from, trigger_says}
+use Rattle.table_laws.proofs.Keeping.{outputs_from, outputs_says, trigger_decides}
 use Rattle.table_laws.proofs.Orders.{whole_from, whole_parts}
 use Rattle.table_laws.proofs.Readings.{sound_parts}
 use Rattle.table_laws.proofs.SameReading.{read_sound, sound_read}
-use Rattle.table_laws.proofs.Sentences.{all_from, all_says, table_from, table_says}
+use Rattle.table_laws.proofs.Sentences.{all_decides, table_from, table_says}
 
 -- the outputs keep the rules
 pub rules_say : (t : Table) → keeps_rules t ≡ true → (a : ℕ) → a < length t.outputs → OutputKeeps t (length t.inputs + a) (output_at t a)
@@ -26,7 +26,7 @@ sound_says t e =
     record {
       parts = table_says t s.parts;
       outputs = rules_say t s.rules;
-      triggers = all_says (trigger_keeps t) (TriggerKeeps t) (trigger_says t) t.triggers r.1;
+      triggers = (all_decides (trigger_keeps t) (TriggerKeeps t) (trigger_decides t) t.triggers).0 r.1;
       no_circle = circle_free t s.free;
     }
 
@@ -37,7 +37,7 @@ sound_from t s =
     (and_from (keeps_rules t) (no_circle t)
     (and_from (outputs_keep t (length t.inputs) t.outputs) (all (trigger_keeps t) t.triggers)
     (outputs_from t (length t.inputs) t.outputs s.parts.each_output s.outputs)
-    (all_from (trigger_keeps t) (TriggerKeeps t) (trigger_from t) t.triggers s.triggers))
+    ((all_decides (trigger_keeps t) (TriggerKeeps t) (trigger_decides t) t.triggers).1 s.triggers))
     (no_circle_from t s.outputs w.outputs.1 s.no_circle))
 
 pub sound_law : SoundLaw

@@ -1,18 +1,21 @@
 -- Layers and circles.
-use Rattle.std.proofs.Common.{◌≡◌, ℕ, zero, suc, ◌+◌, ◌-◌, ◌<◌, ◌≤◌, max, Bool, true, false, ◌⊎◌, List, [], ◌∷◌, length, Some, None, Option, sym, refl, ap, ◌∙◌, subst, inl, inr, ⊎_elim, arith}
-use Rattle.std.proofs.lemmas.Bool.{and_cases, and_from, and_parts, cases_eq, false≢true, true≢false}
+use Rattle.std.proofs.Common.{◌≡◌, ℕ, zero, suc, ◌+◌, ◌-◌, ◌<◌, ◌≤◌, max, Bool, true, false, ◌⊎◌, List, [], ◌∷◌, length, Contains, Some, None, Option, sym, refl, ap, ◌∙◌, subst, inl, inr, ⊎_elim, arith}
+use Rattle.std.proofs.lemmas.Bool.{and_cases, cases_eq, false≢true, true≢false}
+use Rattle.std.proofs.lemmas.Bool.Decides.{Decides-below_and}
+use Rattle.std.specs.Bool.{Decides}
 use Rattle.tables.specs.Kinds.{Table}
 use Rattle.tables.proofs.Circles.{has_layers_is}
 use Rattle.tables.specs.Layers.{has_layers, greatest, is_some, layer, layer_in, then}
 use Rattle.tables.specs.Rules.{below, no_circle, output_at, reads}
-use Rattle.table_laws.specs.Lawful.{Circle, In, OutputKeeps}
+use Rattle.table_laws.specs.Lawful.{Circle, OutputKeeps}
 use Rattle.table_laws.proofs.Asking.{reads_from, reads_says}
+use Rattle.table_laws.proofs.Members.{member_cases, member_first, member_none, member_rest}
 use Rattle.table_laws.proofs.Pigeons.{pigeons}
 
 -- OPTIONS
 
 none_some : {X : Type 0} {n : ℕ} → None ≡ Some n → X
-none_some e = let z : ◌≡◌ {A = ℕ} 0 1 = cc in absurd (omega arith)
+none_some e = absurd cc
 
 then_some : (o : Option ℕ) (k : ℕ → Option ℕ) (n : ℕ) → then o k ≡ Some n → (m : ℕ) × (o ≡ Some m) × (k m ≡ Some n)
 then_some None k n e = none_some e
@@ -32,13 +35,13 @@ some_not (Some n) e = absurd (true≢false e)
 
 -- THE GREATEST
 
-greatest_above : (f : ℕ → Option ℕ) (bs : List ℕ) (top n : ℕ) → greatest f bs top ≡ Some n → (top ≤ n) × ((b : ℕ) → In b bs → (m : ℕ) × (f b ≡ Some m) × (m ≤ n))
-greatest_above f [] top n e = let same : top ≡ n = cc in (omega arith, λ b i. absurd i)
+greatest_above : (f : ℕ → Option ℕ) (bs : List ℕ) (top n : ℕ) → greatest f bs top ≡ Some n → (top ≤ n) × ((b : ℕ) → Contains bs b → (m : ℕ) × (f b ≡ Some m) × (m ≤ n))
+greatest_above f [] top n e = let same : top ≡ n = cc in (omega arith, λ b i. absurd (member_none b i))
 greatest_above f (a ∷ rest) top n e =
     let p = then_some (f a) (λ m. greatest f rest (max top m)) n e in
     let q = greatest_above f rest (max top p.0) n p.2 in
     let high = q.0 in
-    (omega arith, λ b i. ⊎_elim (λ same. (p.0, ap f same ∙ p.1, omega arith)) (q.1 b) i)
+    (omega arith, λ b i. ⊎_elim (λ same. (p.0, ap f same ∙ p.1, omega arith)) (q.1 b) (member_cases b a rest i))
 
 greatest_most : (f : ℕ → Option ℕ) (bs : List ℕ) (d top n : ℕ) → ((b m : ℕ) → f b ≡ Some m → m ≤ d) → top ≤ d → greatest f bs top ≡ Some n → n ≤ d
 greatest_most f [] d top n h low e = let same : top ≡ n = cc in omega arith
@@ -53,12 +56,12 @@ greatest_more f g h (a ∷ rest) top n e =
     let p = then_some (f a) (λ m. greatest f rest (max top m)) n e in
     ap (λ o. then o (λ m. greatest g rest (max top m))) (h a p.0 p.1) ∙ greatest_more f g h rest (max top p.0) n p.2
 
-greatest_none : (f : ℕ → Option ℕ) (bs : List ℕ) (top : ℕ) → greatest f bs top ≡ None → (b : ℕ) × In b bs × (f b ≡ None)
+greatest_none : (f : ℕ → Option ℕ) (bs : List ℕ) (top : ℕ) → greatest f bs top ≡ None → (b : ℕ) × Contains bs b × (f b ≡ None)
 greatest_none f [] top e = none_some (sym e)
 greatest_none f (a ∷ rest) top e =
     ⊎_elim
-    (λ none. (a, inl refl, none))
-    (λ m. let r = greatest_none f rest (max top m.0) m.1 in (r.0, inr r.1, r.2))
+    (λ none. (a, member_first a a rest refl, none))
+    (λ m. let r = greatest_none f rest (max top m.0) m.1 in (r.0, member_rest r.0 a rest r.1, r.2))
     (then_none (f a) (λ m. greatest f rest (max top m)) e)
 
 -- LAYERS
@@ -79,7 +82,7 @@ module _ (ask : ℕ → List ℕ) where
       let most = greatest_most (layer ask d) (ask a) d 0 p.0 (λ b m f. (layer_between d b m f).1) (omega arith) p.1 in
       (omega arith, omega arith)
 
-  layer_above : (d a n b : ℕ) → layer ask (suc d) a ≡ Some n → In b (ask a) → (m : ℕ) × (layer ask d b ≡ Some m) × (m < n)
+  layer_above : (d a n b : ℕ) → layer ask (suc d) a ≡ Some n → Contains (ask a) b → (m : ℕ) × (layer ask d b ≡ Some m) × (m < n)
   layer_above d a n b e i =
       let p = under d a n e in
       let is = p.2 in
@@ -99,7 +102,7 @@ module _ (ask : ℕ → List ℕ) where
   layer_deeper (suc k) d a n e = let same : suc (k + d) ≡ suc k + d = omega arith in subst (λ m. layer ask m a ≡ Some n) same (layer_more (k + d) a n (layer_deeper k d a n e))
 
   -- on a circle no depth suffices
-  endless : (f : ℕ → ℕ) (i j : ℕ) → i < j → f i ≡ f j → ((k : ℕ) → i ≤ k → k < j → In (f (suc k)) (ask (f k))) → (d k n : ℕ) → i ≤ k → k < j → layer ask d (f k) ≡ Some n → ⊥
+  endless : (f : ℕ → ℕ) (i j : ℕ) → i < j → f i ≡ f j → ((k : ℕ) → i ≤ k → k < j → Contains (ask (f k)) (f (suc k))) → (d k n : ℕ) → i ≤ k → k < j → layer ask d (f k) ≡ Some n → ⊥
   endless f i j lt same goes zero k n from to e = none_some e
   endless f i j lt same goes (suc d) k n from to e =
       let p = layer_above d (f k) n (f (suc k)) e (goes k from to) in
@@ -117,9 +120,9 @@ module _ (ask : ℕ → List ℕ) where
     chain : ℕ → ℕ
     first : chain 0 ≡ a
     low : (i : ℕ) → i ≤ d → chain i < most
-    goes : (i : ℕ) → i < d → In (chain (suc i)) (ask (chain i))
+    goes : (i : ℕ) → i < d → Contains (ask (chain i)) (chain (suc i))
 
-  chained : (most : ℕ) → ((a b : ℕ) → a < most → In b (ask a) → b < most) → (d a : ℕ) → a < most → layer ask d a ≡ None → Chain most d a
+  chained : (most : ℕ) → ((a b : ℕ) → a < most → Contains (ask a) b → b < most) → (d a : ℕ) → a < most → layer ask d a ≡ None → Chain most d a
   chained most closed zero a lt e = record { chain = λ i. a; first = refl; low = λ i le. lt; goes = λ i h. absurd (omega arith) }
   chained most closed (suc d) a lt e =
       let n : greatest (layer ask d) (ask a) 0 ≡ None = ⊎_elim (λ n. n) (λ m. none_some (sym m.1)) (then_none (greatest (layer ask d) (ask a) 0) (λ n. Some (n + 1)) e) in
@@ -129,26 +132,21 @@ module _ (ask : ℕ → List ℕ) where
         chain = before a c.chain;
         first = refl;
         low = low_at c.chain c.low;
-        goes = goes_at c.chain (subst (λ x. In x (ask a)) (sym c.first) h.1) c.goes;
+        goes = goes_at c.chain (subst (λ x. Contains (ask a) x) (sym c.first) h.1) c.goes;
       }
     where
       low_at : (f : ℕ → ℕ) → ((i : ℕ) → i ≤ d → f i < most) → (i : ℕ) → i ≤ suc d → before a f i < most
       low_at f h zero le = lt
       low_at f h (suc i) le = h i (omega arith)
 
-      goes_at : (f : ℕ → ℕ) → In (f 0) (ask a) → ((i : ℕ) → i < d → In (f (suc i)) (ask (f i))) → (i : ℕ) → i < suc d → In (before a f (suc i)) (ask (before a f i))
+      goes_at : (f : ℕ → ℕ) → Contains (ask a) (f 0) → ((i : ℕ) → i < d → Contains (ask (f i)) (f (suc i))) → (i : ℕ) → i < suc d → Contains (ask (before a f i)) (before a f (suc i))
       goes_at f one h zero le = one
       goes_at f one h (suc i) le = h i (omega arith)
 
 -- TABLES
 
-below_says : (f : ℕ → Bool) (n : ℕ) → below f n ≡ true → (k : ℕ) → k < n → f k ≡ true
-below_says f zero e k lt = absurd (omega arith)
-below_says f (suc n) e k lt = let p = and_parts (f n) (below f n) e in ⊎_elim (λ same. ap f same ∙ p.0) (λ other. below_says f n p.1 k (omega arith)) (cases_eq k n)
-
-below_from : (f : ℕ → Bool) (n : ℕ) → ((k : ℕ) → k < n → f k ≡ true) → below f n ≡ true
-below_from f zero h = refl
-below_from f (suc n) h = and_from (f n) (below f n) (h n (omega arith)) (below_from f n (λ k lt. h k (omega arith)))
+below_decides : (f : ℕ → Bool) (n : ℕ) → Decides (below f n) ((k : ℕ) → k < n → f k ≡ true)
+below_decides f n = Decides-below_and f (λ k. f k ≡ true) (below f) (λ k. (λ e. e, λ e. e)) refl (λ _. refl) n
 
 below_not : (f : ℕ → Bool) (n : ℕ) → below f n ≡ false → (k : ℕ) × (k < n) × (f k ≡ false)
 below_not f zero e = absurd (true≢false e)
@@ -160,7 +158,7 @@ unfolding layer_in
 layers_free t e c =
     let some = c.some in
     let first = c.goes c.start (omega arith) some in
-    let n = some_says (layer_in t (c.chain c.start)) (below_says (λ a. is_some (layer_in t a)) (length t.outputs) e (c.chain c.start) first.one) in
+    let n = some_says (layer_in t (c.chain c.start)) ((below_decides (λ a. is_some (layer_in t a)) (length t.outputs)).0 e (c.chain c.start) first.one) in
     endless (reads t) c.chain c.start c.end some c.returns (λ k from to. reads_from t (c.chain k) (c.chain (suc k)) (c.goes k from to)) 16 c.start n.0 (omega arith) some n.1
 
 pub circle_free : (t : Table) → no_circle t ≡ true → Circle t → ⊥
@@ -200,10 +198,10 @@ module _ (t : Table) (keeps : (a : ℕ) → a < length t.outputs → OutputKeeps
           (n, subst (λ d. layer (reads t) d a ≡ Some n) deep (layer_deeper (reads t) (16 - length t.outputs) (length t.outputs) a n e), (layer_between (reads t) (length t.outputs) a n e).1)
 
   pub no_circle_from : length t.outputs ≤ 16 → (Circle t → ⊥) → no_circle t ≡ true
-  no_circle_from few none = sym (has_layers_is t) ∙ below_from (λ a. is_some (layer_in t a)) (length t.outputs) (λ a lt. ap is_some (layer_low few none a lt).1)
+  no_circle_from few none = sym (has_layers_is t) ∙ (below_decides (λ a. is_some (layer_in t a)) (length t.outputs)).1 (λ a lt. ap is_some (layer_low few none a lt).1)
 
 -- a layer is above those of the outputs that are asked
-pub layer_over : (t : Table) (a n b : ℕ) → layer_in t a ≡ Some n → In b (reads t a) → (m : ℕ) × (layer_in t b ≡ Some m) × (m < n)
+pub layer_over : (t : Table) (a n b : ℕ) → layer_in t a ≡ Some n → Contains (reads t a) b → (m : ℕ) × (layer_in t b ≡ Some m) × (m < n)
 unfolding layer_in
 layer_over t a n b e i = let p = layer_above (reads t) 15 a n b e i in (p.0, layer_more (reads t) 15 b p.0 p.1, p.2)
 

@@ -2,7 +2,7 @@
 use Rattle.std.proofs.Common.{◌≡◌, ℕ, zero, suc, ◌+◌, ◌≤◌, Bool, true, false, leb, List, [], ◌∷◌, ◌++◌, length, Ok, Result, sym, refl, ap, ◌∙◌, subst, arith}
 use Rattle.std.proofs.lemmas.Bool.{and_from, and_parts, le-leb, leb-true}
 use Rattle.log_laws.specs.Laws.{Octets}
-use Rattle.tables.proofs.Readers.{never as not-whole}
+use Rattle.tables.proofs.Readers.{never}
 use Rattle.tables.proofs.Texts.{some_on}
 use Rattle.tables.specs.declared.op.Op.{Op}
 use Rattle.tables.specs.declared.op.Pace.{Pace}
@@ -193,7 +193,7 @@ whole_stacked (output o) g h e = by (fits 0 o.ops) refl e
   where
     by : (b : Bool) → fits 0 o.ops ≡ b → test b 6 (closed (output o)) [] ≡ Ok g → (output o ≡ g) × (is_output o ≡ true)
     by true fit same = (cc, output_from o h fit)
-    by false fit same = not-whole same
+    by false fit same = never same
 whole_stacked (trigger t) g h e = (cc, h)
 
 pub whole_ranged : (f : Said) → is_field f ≡ true → RangedField f × (stacked f ≡ Ok f)

@@ -1,28 +1,22 @@
 -- The refusals of a content: what they say, and that no other would say the truth.
-use Rattle.std.proofs.Common.{◌≡◌, ℕ, zero, suc, ◌≤◌, Bool, true, false, ◌⊎◌, List, [], ◌∷◌, ◌++◌, length, Ok, Err, Result, sym, refl, ap, ◌∙◌, subst, inl, inr, ⊎_elim, arith}
-use Rattle.std.proofs.lemmas.List.{append_assoc, append-nil, take_at}
+use Rattle.std.proofs.Common.{◌≡◌, ℕ, zero, suc, ◌≤◌, Bool, true, false, ◌⊎◌, List, [], ◌∷◌, ◌++◌, Ok, Err, Result, sym, refl, ap, ◌∙◌, subst, inl, inr, ⊎_elim, arith}
+use Rattle.std.proofs.lemmas.List.{append_assoc, append-nil}
 use Rattle.std.proofs.lemmas.Bool.{false≢true}
-use Rattle.log_laws.proofs.Numbers.{octets_take}
 use Rattle.log_laws.specs.Laws.{Octets}
+use Rattle.tables.proofs.Readers.{never}
 use Rattle.tables.specs.Kinds.{Said, input, life, output, trigger}
 use Rattle.tables.specs.Reading.{closed, content, fits, test}
 use Rattle.tables.specs.Tables.{Stood, admits}
 use Rattle.table_laws.specs.Contents.{Begun, Follows, Spells, StackKept, Wrong, early, late, off, unfit}
 use Rattle.table_laws.specs.Laws.{ContentRefused}
+use Rattle.table_laws.proofs.Bytes.{octets_append, octets_front, octets_more}
 use Rattle.table_laws.proofs.Contents.{RangedField, content_got, content_stacked, output_parts, stacked, whole_stacked}
 use Rattle.table_laws.proofs.Parts.{Done, not_early}
 use Rattle.table_laws.proofs.Sentences.{field_from, field_says, stack_from, stack_says}
-use Rattle.table_laws.proofs.Viable.{Verdict, content_alive, octets_more}
+use Rattle.table_laws.proofs.Viable.{Verdict, content_alive}
 use Rattle.table_laws.proofs.Viable as viable
 
--- BYTES
-
-octets_append : (xs ys : List ℕ) → Octets xs → Octets ys → Octets (xs ++ ys)
-octets_append [] ys p q = q
-octets_append (x ∷ xs) ys p q = octets_more x (xs ++ ys) (p 0) (octets_append xs ys (λ i. p (suc i)) q)
-
-pub octets_front : (xs ys : List ℕ) → Octets (xs ++ ys) → Octets xs
-octets_front xs ys o = subst Octets (take_at xs ys (length xs) refl) (octets_take (length xs) (xs ++ ys) o)
+-- CUTS
 
 -- two cuts of the same bytes: at one place, or one before the other
 cuts : (xs : List ℕ) (x : ℕ) (more ys : List ℕ) (y : ℕ) (rest : List ℕ) → xs ++ (x ∷ more) ≡ ys ++ (y ∷ rest) → (xs ≡ ys) ⊎ (((z : List ℕ) × (ys ≡ xs ++ (x ∷ z))) ⊎ ((z : List ℕ) × (xs ≡ ys ++ (y ∷ z))))
@@ -51,10 +45,10 @@ stacked_done (trigger g) = tt
 
 -- where the stack rule is broken, and where it is kept
 stack_broken : (f : Said) → stacked f ≡ Err 6 → StackKept f → ⊥
-stack_broken (life n) e k = viable.ok_err e
-stack_broken (input s) e k = viable.ok_err e
-stack_broken (output o) e k = viable.ok_err (sym (ap (λ b. test b 6 (closed (output o)) []) (stack_from 0 o.ops k)) ∙ e)
-stack_broken (trigger g) e k = viable.ok_err e
+stack_broken (life n) e k = never (sym e)
+stack_broken (input s) e k = never (sym e)
+stack_broken (output o) e k = never (sym e ∙ ap (λ b. test b 6 (closed (output o)) []) (stack_from 0 o.ops k))
+stack_broken (trigger g) e k = never (sym e)
 
 stack_kept : (f g : Said) → RangedField f → stacked f ≡ Ok g → StackKept f
 stack_kept (life n) g r e = tt

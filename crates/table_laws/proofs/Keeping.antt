@@ -1,8 +1,11 @@
 -- The rules on reading: tests against sentences.
 use Rattle.std.proofs.Common.{◌≡◌, ℕ, zero, suc, ◌+◌, ◌*◌, ◌/◌, ◌%◌, ◌<◌, Bool, true, not, ◌&&◌, ◌||◌, eqb, ltb, leb, ◌⊎◌, List, [], ◌∷◌, length, get_or, ℤ, sym, refl, ap, ◌∙◌, subst, inl, inr, ⊎_elim, add-zero, mul_comm, mul-div_cancel, arith}
 use native.Mathlib.Nat.{mod-add-div, mul-mod_left}
-use Rattle.std.proofs.lemmas.Bool.{and_from, and_parts, cases_eq, eq-eqb, eqb-false, eqb-true, false≢true, le-leb, leb-true, lt-ltb, ltb-true, ne_eqb, not_from_false, not-true, or_cases, or_left, or_right}
-use Rattle.std.specs.List.{AllByRecursion as All}
+use Rattle.std.proofs.lemmas.Bool.{and_from, and_parts, cases_eq, eq-eqb, eqb-true, false≢true, le-leb, leb-true, lt-ltb, ltb-true, or_cases, or_left, or_right}
+use Rattle.std.proofs.lemmas.Bool.Decides.{Decides-and, Decides-ltb}
+use Rattle.std.specs.Bool.{Decides}
+use Rattle.std.proofs.lemmas.List.Elements.{All-head, All-tail}
+use Rattle.std.specs.List.{All, Contains}
 use Rattle.aggregates.specs.declared.kind.Kind.{Kind}
 use Rattle.tables.specs.declared.op.Op.{Op}
 use Rattle.tables.specs.declared.op.Op.TheVariants.{Number, Now, Past, Held, Window, Add, Subtract, Multiply, Less, Equal, Choose}
@@ -11,8 +14,9 @@ use Rattle.tables.specs.declared.op.Pace.TheVariants.{Event, Every}
 use Rattle.tables.specs.Kinds.{Output, Table, Trigger}
 use Rattle.tables.specs.Rules.{all, any, divides, driven, keeps_pace, may, meets_other, nothing, output_keeps, pace_of, spans, streams, trigger_keeps}
 use Rattle.tables.specs.Sound.{outputs_keep}
-use Rattle.table_laws.specs.Lawful.{Between, In, Meets, Names, OpKeeps, OutputKeeps, PaceInRange, TriggerKeeps, WholeOutput}
-use Rattle.table_laws.proofs.Sentences.{all_from, all_says}
+use Rattle.table_laws.specs.Lawful.{Between, Meets, Names, OpKeeps, OutputKeeps, PaceInRange, TriggerKeeps, WholeOutput}
+use Rattle.table_laws.proofs.Members.{member_cases, member_first, member_none, member_rest}
+use Rattle.table_laws.proofs.Sentences.{all_from, all_says, differs}
 
 -- WHAT AN OPERATION NAMES
 
@@ -59,7 +63,7 @@ abbrev Paced : Pace → Pace → Type 0
 Paced p q = (p ≡ Event → q ≡ Event) × ((n : ℕ) → p ≡ Every n → (m : ℕ) × (times : ℕ) × (q ≡ Every m) × (n ≡ times * m))
 
 clash : {X : Type 0} {n : ℕ} → Event ≡ Every n → X
-clash e = let z : ◌≡◌ {A = ℕ} 0 1 = cc in absurd (omega arith)
+clash e = absurd cc
 
 same_period : (m n : ℕ) → Every m ≡ Every n → m ≡ n
 same_period m n e = cc
@@ -110,12 +114,6 @@ spans_from (Every p) (Every q) u f h = clash (sym h.3)
 
 -- ONE OPERATION
 
-not_eqb : (s me : ℕ) → (s ≡ me → ⊥) → not (eqb s me) ≡ true
-not_eqb s me other = not_from_false (eqb s me) (ne_eqb s me other)
-
-eqb_not : (s me : ℕ) → not (eqb s me) ≡ true → s ≡ me → ⊥
-eqb_not s me e = eqb-false s me (not-true (eqb s me) e)
-
 module _ (t : Table) (me : ℕ) (p : Pace) where
   -- the rules by what an operation names, if anything
   ruled : (x : Op) → (class x < 3 → stream_of x < streams t) → (class x < 3 → stream_of x ≡ me → (b : ℕ) × (d : ℤ) × (x ≡ Past me b d))
@@ -147,7 +145,7 @@ module _ (t : Table) (me : ℕ) (p : Pace) where
   may_says (Now s) e =
       let a = and_parts (ltb s (streams t)) (not (eqb s me) && keeps_pace p (pace_of t s)) e in
       let b = and_parts (not (eqb s me)) (keeps_pace p (pace_of t s)) a.1 in
-      other (Now s) (ltb-true s (streams t) a.0) (eqb_not s me b.0) (λ c. pace_says p (pace_of t s) b.1) (no_window (Now s) (λ n. omega arith))
+      other (Now s) (ltb-true s (streams t) a.0) ((differs s me).0 b.0) (λ c. pace_says p (pace_of t s) b.1) (no_window (Now s) (λ n. omega arith))
   may_says (Past s b d) e =
       let a = and_parts (ltb s (streams t)) (eqb s me || keeps_pace p (pace_of t s)) e in
       ruled (Past s b d) (λ n. ltb-true s (streams t) a.0) (λ n same. (b, d, ap (λ z. Past z b d) same))
@@ -155,11 +153,11 @@ module _ (t : Table) (me : ℕ) (p : Pace) where
       (no_window (Past s b d) (λ n. omega arith))
   may_says (Held s d) e =
       let a = and_parts (ltb s (streams t)) (not (eqb s me)) e in
-      other (Held s d) (ltb-true s (streams t) a.0) (eqb_not s me a.1) (λ c. absurd (omega arith)) (no_window (Held s d) (λ n. omega arith))
+      other (Held s d) (ltb-true s (streams t) a.0) ((differs s me).0 a.1) (λ c. absurd (omega arith)) (no_window (Held s d) (λ n. omega arith))
   may_says (Window s k u d) e =
       let a = and_parts (ltb s (streams t)) (not (eqb s me) && spans p (pace_of t s) u) e in
       let b = and_parts (not (eqb s me)) (spans p (pace_of t s) u) a.1 in
-      other (Window s k u d) (ltb-true s (streams t) a.0) (eqb_not s me b.0) (λ c. absurd (omega arith))
+      other (Window s k u d) (ltb-true s (streams t) a.0) ((differs s me).0 b.0) (λ c. absurd (omega arith))
       (λ s' k' u' d' same. (let es : s ≡ s' = cc in let eu : u ≡ u' = cc in subst (λ z. Spans p (pace_of t z) u') es (subst (Spans p (pace_of t s)) eu (spans_says p (pace_of t s) u b.1))))
   may_says Add e = silent Add refl
   may_says Subtract e = silent Subtract refl
@@ -180,9 +178,9 @@ module _ (t : Table) (me : ℕ) (p : Pace) where
   may_from : PaceInRange p → (x : Op) → OpKeeps t me p x → may t me p x ≡ true
   may_from f (Number v) r = refl
   may_from f (Now s) r =
-      let ne = apart (Now s) r (λ b d e. let z : ◌≡◌ {A = ℕ} 0 1 = cc in omega arith) (inl (inl (inl refl))) in
+      let ne = apart (Now s) r (λ b d e. cc) (inl (inl (inl refl))) in
       and_from (ltb s (streams t)) (not (eqb s me) && keeps_pace p (pace_of t s)) (lt-ltb s (streams t) (r.exists s (inl (inl (inl refl)))))
-      (and_from (not (eqb s me)) (keeps_pace p (pace_of t s)) (not_eqb s me ne) (paced (Now s) r (inl refl) ne))
+      (and_from (not (eqb s me)) (keeps_pace p (pace_of t s)) ((differs s me).1 ne) (paced (Now s) r (inl refl) ne))
   may_from f (Past s b d) r =
       and_from (ltb s (streams t)) (eqb s me || keeps_pace p (pace_of t s)) (lt-ltb s (streams t) (r.exists s (inl (inl (inr (b, d, refl))))))
       (⊎_elim
@@ -190,12 +188,12 @@ module _ (t : Table) (me : ℕ) (p : Pace) where
       (λ ne. or_right (eqb s me) (keeps_pace p (pace_of t s)) (paced (Past s b d) r (inr (b, d, refl)) ne))
       (cases_eq s me))
   may_from f (Held s d) r =
-      let ne = apart (Held s d) r (λ b' d' e. let z : ◌≡◌ {A = ℕ} 0 1 = cc in omega arith) (inl (inr (d, refl))) in
-      and_from (ltb s (streams t)) (not (eqb s me)) (lt-ltb s (streams t) (r.exists s (inl (inr (d, refl))))) (not_eqb s me ne)
+      let ne = apart (Held s d) r (λ b' d' e. cc) (inl (inr (d, refl))) in
+      and_from (ltb s (streams t)) (not (eqb s me)) (lt-ltb s (streams t) (r.exists s (inl (inr (d, refl))))) ((differs s me).1 ne)
   may_from f (Window s k u d) r =
-      let ne = apart (Window s k u d) r (λ b' d' e. let z : ◌≡◌ {A = ℕ} 0 1 = cc in omega arith) (inr (k, u, d, refl)) in
+      let ne = apart (Window s k u d) r (λ b' d' e. cc) (inr (k, u, d, refl)) in
       and_from (ltb s (streams t)) (not (eqb s me) && spans p (pace_of t s) u) (lt-ltb s (streams t) (r.exists s (inr (k, u, d, refl))))
-      (and_from (not (eqb s me)) (spans p (pace_of t s) u) (not_eqb s me ne) (spans_from p (pace_of t s) u f (r.windows s k u d refl)))
+      (and_from (not (eqb s me)) (spans p (pace_of t s) u) ((differs s me).1 ne) (spans_from p (pace_of t s) u f (r.windows s k u d refl)))
   may_from f Add r = refl
   may_from f Subtract r = refl
   may_from f Multiply r = refl
@@ -205,18 +203,18 @@ module _ (t : Table) (me : ℕ) (p : Pace) where
 
 -- OUTPUTS AND TRIGGERS
 
-any_says : {X : Type 0} (test : X → Bool) (xs : List X) → any test xs ≡ true → (x : X) × In x xs × (test x ≡ true)
+any_says : {X : Type 0} (test : X → Bool) (xs : List X) → any test xs ≡ true → (x : X) × Contains xs x × (test x ≡ true)
 any_says test [] e = absurd (false≢true e)
-any_says test (x ∷ xs) e = ⊎_elim (λ h. (x, inl refl, h)) (λ h. let r = any_says test xs h in (r.0, inr r.1, r.2)) (or_cases (test x) (any test xs) e)
+any_says test (x ∷ xs) e = ⊎_elim (λ h. (x, member_first x x xs refl, h)) (λ h. let r = any_says test xs h in (r.0, member_rest r.0 x xs r.1, r.2)) (or_cases (test x) (any test xs) e)
 
-any_from : {X : Type 0} (test : X → Bool) (xs : List X) (x : X) → In x xs → test x ≡ true → any test xs ≡ true
-any_from test [] x i e = absurd i
-any_from test (y ∷ ys) x i e = ⊎_elim (λ same. or_left (test y) (any test ys) (ap test (sym same) ∙ e)) (λ j. or_right (test y) (any test ys) (any_from test ys x j e)) i
+any_from : {X : Type 0} (test : X → Bool) (xs : List X) (x : X) → Contains xs x → test x ≡ true → any test xs ≡ true
+any_from test [] x i e = absurd (member_none x i)
+any_from test (y ∷ ys) x i e = ⊎_elim (λ same. or_left (test y) (any test ys) (ap test (sym same) ∙ e)) (λ j. or_right (test y) (any test ys) (any_from test ys x j e)) (member_cases x y ys i)
 
 meets_says : (me : ℕ) (x : Op) → meets_other me x ≡ true → (s : ℕ) × Meets x s × (s ≡ me → ⊥)
 meets_says me (Number v) e = absurd (false≢true e)
-meets_says me (Now s) e = (s, inl refl, eqb_not s me e)
-meets_says me (Past s b d) e = (s, inr (b, d, refl), eqb_not s me e)
+meets_says me (Now s) e = (s, inl refl, (differs s me).0 e)
+meets_says me (Past s b d) e = (s, inr (b, d, refl), (differs s me).0 e)
 meets_says me (Held s d) e = absurd (false≢true e)
 meets_says me (Window s k u d) e = absurd (false≢true e)
 meets_says me Add e = absurd (false≢true e)
@@ -227,14 +225,14 @@ meets_says me Equal e = absurd (false≢true e)
 meets_says me Choose e = absurd (false≢true e)
 
 meets_from : (me : ℕ) (x : Op) (s : ℕ) → Meets x s → (s ≡ me → ⊥) → meets_other me x ≡ true
-meets_from me x s (inl e) other = ap (meets_other me) e ∙ not_eqb s me other
-meets_from me x s (inr (b, d, e)) other = ap (meets_other me) e ∙ not_eqb s me other
+meets_from me x s (inl e) other = ap (meets_other me) e ∙ (differs s me).1 other
+meets_from me x s (inr (b, d, e)) other = ap (meets_other me) e ∙ (differs s me).1 other
 
-driven_says : (me : ℕ) (p : Pace) (os : List Op) → driven me p os ≡ true → p ≡ Event → (x : Op) × (s : ℕ) × In x os × Meets x s × (s ≡ me → ⊥)
+driven_says : (me : ℕ) (p : Pace) (os : List Op) → driven me p os ≡ true → p ≡ Event → (x : Op) × (s : ℕ) × Contains os x × Meets x s × (s ≡ me → ⊥)
 driven_says me Event os e z = let a = any_says (meets_other me) os e in let b = meets_says me a.0 a.2 in (a.0, b.0, a.1, b.1, b.2)
 driven_says me (Every p) os e z = clash (sym z)
 
-driven_from : (me : ℕ) (p : Pace) (os : List Op) → (p ≡ Event → (x : Op) × (s : ℕ) × In x os × Meets x s × (s ≡ me → ⊥)) → driven me p os ≡ true
+driven_from : (me : ℕ) (p : Pace) (os : List Op) → (p ≡ Event → (x : Op) × (s : ℕ) × Contains os x × Meets x s × (s ≡ me → ⊥)) → driven me p os ≡ true
 driven_from me Event os h = let r = h refl in any_from (meets_other me) os r.0 r.2 (meets_from me r.0 r.1 r.3 r.4)
 driven_from me (Every p) os h = refl
 
@@ -248,14 +246,9 @@ output_from t me o f r =
     and_from (all (may t me o.pace) o.ops) (driven me o.pace o.ops)
     (all_from (may t me o.pace) (OpKeeps t me o.pace) (may_from t me o.pace f) o.ops r.each) (driven_from me o.pace o.ops r.driven)
 
-pub trigger_says : (t : Table) (g : Trigger) → trigger_keeps t g ≡ true → TriggerKeeps t g
-trigger_says t g e =
-    let a = and_parts (leb (length t.inputs) g.stream) (ltb g.stream (streams t)) e in
-    (leb-true (length t.inputs) g.stream a.0, ltb-true g.stream (streams t) a.1)
-
-pub trigger_from : (t : Table) (g : Trigger) → TriggerKeeps t g → trigger_keeps t g ≡ true
-trigger_from t g h =
-    and_from (leb (length t.inputs) g.stream) (ltb g.stream (streams t)) (le-leb (length t.inputs) g.stream h.0) (lt-ltb g.stream (streams t) h.1)
+pub trigger_decides : (t : Table) (g : Trigger) → Decides (trigger_keeps t g) (TriggerKeeps t g)
+trigger_decides t g =
+    Decides-and (leb (length t.inputs) g.stream) (ltb g.stream (streams t)) (leb-true (length t.inputs) g.stream, le-leb (length t.inputs) g.stream) (Decides-ltb g.stream (streams t))
 
 -- each of some outputs, the first of which is stream `me`
 abbrev OutputsKeep : Table → (me : ℕ) → List Output → Type 0
@@ -273,4 +266,4 @@ outputs_from t me [] w h = refl
 outputs_from t me (o ∷ os) w h =
     let first = subst (λ m. OutputKeeps t m o) (add-zero me) (h 0 (omega arith)) in
     let others : OutputsKeep t (me + 1) os = (λ a lt. let far : me + suc a ≡ me + 1 + a = omega arith in subst (λ m. OutputKeeps t m (get_or os a nothing)) far (h (suc a) (omega arith))) in
-    and_from (output_keeps t me o) (outputs_keep t (me + 1) os) (output_from t me o w.0.parts.period first) (outputs_from t (me + 1) os w.1 others)
+    and_from (output_keeps t me o) (outputs_keep t (me + 1) os) (output_from t me o (All-head WholeOutput o os w).parts.period first) (outputs_from t (me + 1) os (All-tail WholeOutput o os w) others)

@@ -1,10 +1,12 @@
 pub mod Acceptance
 pub mod Asking
+pub mod Bytes
 pub mod Chains
 pub mod Contents
 pub mod Faults
 pub mod Framing
 pub mod Keeping
+pub mod Members
 pub mod Operands
 pub mod Orders
 pub mod Parts

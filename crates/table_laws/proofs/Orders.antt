@@ -1,5 +1,6 @@
 -- Fields that pass one after another, and end with an output behind them, are those of a table.
 use Rattle.std.proofs.Common.{◌≡◌, ℕ, ◌+◌, ◌<◌, ◌≤◌, Bool, true, ◌&&◌, ltb, List, [], ◌∷◌, ◌++◌, map, length, refl, ap, ◌∙◌, arith}
+use Rattle.std.proofs.lemmas.List.{nil_from_length}
 use Rattle.std.proofs.lemmas.Bool.{and_from, and_parts, false≢true, le-leb, leb-true, lt-ltb, ltb-true}
 use Rattle.tables.specs.declared.op.Pace.{Pace}
 use Rattle.tables.specs.declared.op.Pace.TheVariants.{Event, Every}
@@ -111,8 +112,7 @@ record Ordered (s : Stood) (fs : List Said) : Type 0 where
   few_windows : s.windows + windows_in_all outputs ≤ 8
 
 empty : {X : Type 0} (xs : List X) → (1 ≤ length xs → ⊥) → xs ≡ []
-empty [] h = refl
-empty (x ∷ xs) h = absurd (h (omega arith))
+empty xs h = nil_from_length xs (omega arith)
 
 -- no more of any kind stood than a table has, and life did
 record Within (s : Stood) : Type 0 where

@@ -76,7 +76,7 @@ value_small (pos n) e = omega (arith, ltb-true n (2 ^ 31) e)
 value_small (negsuc n) e = omega arith
 
 found_number : (n : ℕ) (ks : List Kind) (k : Kind) → found n ks ≡ Some k → kinds.number k ≡ n
-found_number n [] k e = let z : ◌≡◌ {A = ℕ} 0 1 = cc in absurd (omega arith)
+found_number n [] k e = absurd cc
 found_number n (j ∷ js) k e = by (eqb (kinds.number j) n) refl e (found_number n js k)
   where
     by : (b : Bool) → eqb (kinds.number j) n ≡ b → cond b (Some j) (found n js) ≡ Some k → (found n js ≡ Some k → kinds.number k ≡ n) → kinds.number k ≡ n

@@ -1,7 +1,9 @@
 -- The whole reader, with places: what is read is what was written.
 use Rattle.std.proofs.Common.{◌≡◌, ℕ, suc, ◌+◌, Bool, true, false, ◌&&◌, List, [], ◌∷◌, ◌++◌, map, length, Ok, Err, Result, sym, refl, ap, ◌∙◌, subst, add-zero, arith}
+use Rattle.std.proofs.Math.Bool.{and_assoc}
 use Rattle.std.proofs.lemmas.Bool.{and_from, and_parts}
 use Rattle.log_laws.specs.Laws.{Octets}
+pub use Rattle.tables.proofs.Readers.{never as apart}
 use Rattle.tables.specs.Kinds.{Output, Said, Table, Trigger, input, life, output, trigger}
 use Rattle.tables.specs.Rules.{all, no_circle, output_keeps, trigger_keeps}
 use Rattle.tables.specs.Sound.{is_whole, keeps_rules, outputs_keep, sound}
@@ -10,10 +12,6 @@ use Rattle.table_laws.specs.Placing.{Placed, gathered, judged, walk, whole, read
 use Rattle.table_laws.specs.Walks.{placed}
 use Rattle.table_laws.proofs.Orders.{Whole, fields_pass, table_of, whole_from, whole_parts}
 use Rattle.table_laws.proofs.Walks.{Tells, tells, walk_all}
-
--- no value is a refusal
-pub apart : {X Y : Type 0} {e : Refusal} {x : X} → Err e ≡ Ok x → Y
-apart p = let z : ◌≡◌ {A = ℕ} 0 1 = cc in absurd (omega arith)
 
 -- FIELDS AND TABLES
 
@@ -42,14 +40,10 @@ kept_triggers : (t : Table) (me : ℕ) (gs : List Trigger) → kept t me (map tr
 kept_triggers t me [] = refl
 kept_triggers t me (g ∷ gs) = ap (λ b. trigger_keeps t g && b) (kept_triggers t (me + 0) gs)
 
-and_assoc : (a b c : Bool) → (a && (b && c)) ≡ ((a && b) && c)
-and_assoc true b c = refl
-and_assoc false b c = refl
-
 kept_outputs : (t : Table) (me : ℕ) (os : List Output) (gs : List Trigger) → kept t me (map output os ++ map trigger gs) ≡ (outputs_keep t me os && all (trigger_keeps t) gs)
 kept_outputs t me [] gs = kept_triggers t me gs
 kept_outputs t me (o ∷ os) gs =
-    ap (λ b. output_keeps t me o && b) (kept_outputs t (me + 1) os gs) ∙ and_assoc (output_keeps t me o) (outputs_keep t (me + 1) os) (all (trigger_keeps t) gs)
+    ap (λ b. output_keeps t me o && b) (kept_outputs t (me + 1) os gs) ∙ sym (and_assoc (output_keeps t me o) (outputs_keep t (me + 1) os) (all (trigger_keeps t) gs))
 
 kept_inputs : (t : Table) (me : ℕ) (ns : List (List ℕ)) (fs : List Said) → kept t me (map input ns ++ fs) ≡ kept t (me + length ns) fs
 kept_inputs t me [] fs = ap (λ m. kept t m fs) (sym (add-zero me))

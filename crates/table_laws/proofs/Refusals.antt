@@ -1,7 +1,7 @@
 -- Refusals and what they say.
 use Rattle.std.proofs.Common.{◌≡◌, ℕ, ◌+◌, ◌<◌, ◌≤◌, Bool, true, false, ◌⊎◌, List, [], ◌∷◌, ◌++◌, length, Ok, Err, Result, sym, refl, ap, ◌∙◌, subst, inl, inr, ⊎_elim, add-zero, arith}
 use Rattle.std.proofs.lemmas.List.{append-nil, drop_at, length-append}
-use Rattle.std.proofs.lemmas.Bool.{and_from, and_parts, both_ways, le-ltb}
+use Rattle.std.proofs.lemmas.Bool.{and_from, and_parts, both_ways, false_from_ne_true, le-ltb}
 use Rattle.log_laws.proofs.Fields.{first_field}
 use Rattle.log_laws.proofs.Refused.{cut_none}
 use Rattle.log_laws.proofs.Numbers.{octets_drop}
@@ -20,8 +20,9 @@ use Rattle.table_laws.specs.Walks.{Breaks, Passes, after, cut, misplaced, missin
 use Rattle.table_laws.specs.Whole.{is_field}
 use Rattle.table_laws.proofs.Acceptance.{rules_say}
 use Rattle.table_laws.proofs.Chains.{circle_found, circle_free}
-use Rattle.table_laws.proofs.Faults.{octets_front, tag_known, told}
-use Rattle.table_laws.proofs.Keeping.{output_from, output_says, trigger_from, trigger_says}
+use Rattle.table_laws.proofs.Bytes.{octets_front}
+use Rattle.table_laws.proofs.Faults.{tag_known, told}
+use Rattle.table_laws.proofs.Keeping.{output_from, output_says, trigger_decides}
 use Rattle.table_laws.proofs.Orders.{Whole, fields_pass}
 use Rattle.table_laws.proofs.Readings.{apart, kept, kept_fields, read_fields, tells_table}
 use Rattle.table_laws.proofs.SameReading.{read_same}
@@ -86,13 +87,13 @@ keeps_says : (t : Table) (me : ℕ) (f : Said) → keeps t me f ≡ true → Fie
 keeps_says t me (life n) e = tt
 keeps_says t me (input s) e = tt
 keeps_says t me (output o) e = output_says t me o e
-keeps_says t me (trigger g) e = trigger_says t g e
+keeps_says t me (trigger g) e = (trigger_decides t g).0 e
 
 keeps_from : (t : Table) (me : ℕ) (f : Said) → is_field f ≡ true → FieldKeeps t me f → keeps t me f ≡ true
 keeps_from t me (life n) w h = refl
 keeps_from t me (input s) w h = refl
-keeps_from t me (output o) w h = output_from t me o (sentences.output_says o w).parts.period h
-keeps_from t me (trigger g) w h = trigger_from t g h
+keeps_from t me (output o) w h = output_from t me o ((sentences.output_decides o).0 w).parts.period h
+keeps_from t me (trigger g) w h = (trigger_decides t g).1 h
 
 kept_says : (t : Table) (me : ℕ) (fs : List Said) → kept t me fs ≡ true → AllKeep t me fs
 kept_says t me [] e = tt
@@ -180,11 +181,6 @@ judged_circle t end (f ∷ fs) me place k c =
     let p = and_parts (keeps t me f) (kept t (me + streams_in f) fs) k in
     ap (λ b. sure b 5 place (judged t end (me + streams_in f) (placed far fs))) p.0 ∙ judged_circle t end fs (me + streams_in f) far p.1 c
 
--- the test fails where the sentence does
-fails : (b : Bool) {P : Type 0} → (b ≡ true → P) → (P → ⊥) → b ≡ false
-fails true h none = absurd (none (h refl))
-fails false h none = refl
-
 -- BOTH WAYS
 
 module _ (bytes : List ℕ) (e : Refusal) where
@@ -239,7 +235,7 @@ placed_told bytes e o (by_rule b) =
     let pass : Passes start (b.before ++ (b.field ∷ b.others)) = subst (Passes start) b.order (fields_pass t w).0 in
     let none : streams_in_all b.before ≡ 0 + streams_in_all b.before = omega arith in
     let broken : keeps t (0 + streams_in_all b.before) b.field ≡ false =
-    fails (keeps t (0 + streams_in_all b.before) b.field) (λ k. subst (λ m. FieldKeeps t m b.field) (sym none) (keeps_says t (0 + streams_in_all b.before) b.field k)) b.breaks in
+    false_from_ne_true (keeps t (0 + streams_in_all b.before) b.field) (λ k. b.breaks (subst (λ m. FieldKeeps t m b.field) (sym none) (keeps_says t (0 + streams_in_all b.before) b.field k))) in
     ap read_placed b.whole
     ∙ read_fields t w
     ∙ ap (λ fs. judged t (length (write t)) 0 (placed 0 fs)) b.order
@@ -252,7 +248,7 @@ placed_told bytes e o (by_circle b) =
     let keep : kept t 0 (fields t) ≡ true = kept_from t 0 (fields t) [] start (subst (Passes start) (sym (append-nil (fields t))) pass) b.keep in
     ap read_placed b.whole
     ∙ read_fields t w
-    ∙ judged_circle t (length (write t)) (fields t) 0 0 keep (fails (no_circle t) (circle_free t) (λ none. none b.circle))
+    ∙ judged_circle t (length (write t)) (fields t) 0 0 keep (false_from_ne_true (no_circle t) (λ free. circle_free t free b.circle))
     ∙ refusal_is 7 (length (write t)) e b.number (b.place ∙ ap length b.whole)
 
 pub refusal_told : RefusalTold

@@ -7,20 +7,12 @@ use Rattle.tables.specs.declared.op.Op.{Op}
 use Rattle.tables.specs.declared.op.Op.TheVariants.{Number, Now, Past, Held, Window, Add, Subtract, Multiply, Less, Equal, Choose}
 use Rattle.tables.specs.declared.op.Pace.{Pace}
 use Rattle.tables.specs.declared.op.Pace.TheVariants.{Event, Every}
+use Rattle.tables.proofs.Readers.{never}
 use Rattle.tables.specs.Kinds.{Said, input, life, output, trigger}
 use Rattle.tables.specs.Reading.{aggregate, byte, closed, content, fits, given, kind_of, operands, ops, outputs, ranged, signed, some, test, text, till, windows_in, with_ops, within, word, word_of}
+use Rattle.table_laws.proofs.Bytes.{octets_more, octets_none}
 use Rattle.table_laws.proofs.Contents.{made, within_from}
 use Rattle.table_laws.proofs.Parts.{Done, not_off}
-
-octets_none : Octets []
-octets_none i = omega arith
-
-pub octets_more : (b : ℕ) (bs : List ℕ) → b < 256 → Octets bs → Octets (b ∷ bs)
-octets_more b bs small o zero = small
-octets_more b bs small o (suc i) = o i
-
-pub ok_err : {X Y : Type 0} {x : X} {e : ℕ} → Ok x ≡ Err e → Y
-ok_err h = let z : ◌≡◌ {A = ℕ} 0 1 = cc in absurd (omega arith)
 
 same_err : {X : Type 0} {m n : ℕ} → ◌≡◌ {A = Result X ℕ} (Err m) (Err n) → m ≡ n
 same_err h = cc
@@ -134,7 +126,7 @@ module _ {X : Type 0} where
   closed_alive x = record { live = record { more = []; octets = octets_none; done = tt }; honest = says }
     where
       says : (bs : List ℕ) (e : ℕ) → Octets bs → closed x bs ≡ Err e → Verdict (closed x) bs e
-      says [] e o h = ok_err h
+      says [] e o h = never (sym h)
       says (b ∷ bs) e o h = late (same_err (sym h)) [] b bs refl [] octets_none tt (λ c m d. omega arith)
 
   text_alive : (low n : ℕ) (k : List ℕ → List ℕ → Result X ℕ) → low ≤ 126 → ((s : List ℕ) → Alive (k s)) → Alive (text low n k)

@@ -1,9 +1,7 @@
 -- What is written of a sound table are bytes, and not many.
-use Rattle.std.proofs.Common.{◌≡◌, ℕ, zero, suc, ◌+◌, ◌*◌, ◌/◌, ◌^◌, ◌<◌, ◌≤◌, true, ◌&&◌, ltb, List, [], ◌∷◌, ◌++◌, map, length, refl, arith, w32, of_z}
-use Rattle.std.proofs.ByRecursion.{All-append}
+use Rattle.std.proofs.Common.{◌≡◌, ℕ, zero, suc, ◌+◌, ◌*◌, ◌/◌, ◌%◌, ◌^◌, ◌<◌, ◌≤◌, true, ◌&&◌, ltb, List, [], ◌∷◌, ◌++◌, map, length, refl, arith, w32, of_z}
 use Rattle.std.proofs.lemmas.List.{length-append}
 use Rattle.std.proofs.lemmas.Bool.{and_parts, ltb-true}
-use Rattle.std.specs.List.{AllByRecursion as All}
 use Rattle.aggregates.specs.declared.kind.Kind.{Kind}
 use Rattle.aggregates.specs.declared.kind.Kind.TheVariants.{Count, Sum, Smallest, Largest, Average}
 use Rattle.aggregates.specs.Kinds as kinds
@@ -21,6 +19,7 @@ use Rattle.tables.specs.Tables.{Stood, content_bytes, field_bytes, fields, field
 use Rattle.table_laws.specs.Laws.{WrittenLaw}
 use Rattle.table_laws.specs.Walks.{Passes}
 use Rattle.table_laws.specs.Whole.{is_field}
+use Rattle.table_laws.proofs.Bytes.{octets_append, octets_more, octets_none}
 use Rattle.table_laws.proofs.Contents.{output_parts, within_parts}
 use Rattle.table_laws.proofs.Orders.{fields_pass}
 use Rattle.table_laws.proofs.Readings.{sound_parts}
@@ -28,91 +27,89 @@ use Rattle.table_laws.proofs.Walks.{content_size, most_bytes}
 
 -- BYTES
 
-abbrev Small : ℕ → Type 0
-Small b = b < 256
+low_octets : (count n : ℕ) → Octets (low_first count n)
+low_octets zero n = octets_none
+low_octets (suc count) n = octets_more (n % 256) (low_first count (n / 256)) (omega arith) (low_octets count (n / 256))
 
-octets_from : (bs : List ℕ) → All Small bs → Octets bs
-octets_from [] h i = omega arith
-octets_from (b ∷ bs) h zero = h.0
-octets_from (b ∷ bs) h (suc i) = octets_from bs h.1 i
-
-low_small : (count n : ℕ) → All Small (low_first count n)
-low_small zero n = tt
-low_small (suc count) n = (omega arith, low_small count (n / 256))
-
-text_small : (low : ℕ) (s : List ℕ) → all (within low 126) s ≡ true → All Small s
-text_small low [] h = tt
-text_small low (b ∷ s) h =
+text_octets : (low : ℕ) (s : List ℕ) → all (within low 126) s ≡ true → Octets s
+text_octets low [] h = octets_none
+text_octets low (b ∷ s) h =
     let p = and_parts (within low 126 b) (all (within low 126) s) h in
     let most = (within_parts low 126 b p.0).1 in
-    (omega arith, text_small low s p.1)
+    octets_more b s (omega arith) (text_octets low s p.1)
 
-kind_small : (k : Kind) → Small (kinds.number k)
+kind_small : (k : Kind) → kinds.number k < 256
 kind_small Count = omega arith
 kind_small Sum = omega arith
 kind_small Smallest = omega arith
 kind_small Largest = omega arith
 kind_small Average = omega arith
 
-op_small : (o : Op) → is_op o ≡ true → All Small (op_bytes o)
-op_small (Number v) h = (omega arith, low_small 4 (of_z w32 v))
-op_small (Now s) h = (omega arith, (ltb-true s 256 h, tt))
-op_small (Past s b d) h =
+two_octets : (a b : ℕ) (bs : List ℕ) → a < 256 → b < 256 → Octets bs → Octets (a ∷ b ∷ bs)
+two_octets a b bs first second o = octets_more a (b ∷ bs) first (octets_more b bs second o)
+
+three_octets : (a b c : ℕ) (bs : List ℕ) → a < 256 → b < 256 → c < 256 → Octets bs → Octets (a ∷ b ∷ c ∷ bs)
+three_octets a b c bs first second third o = octets_more a (b ∷ c ∷ bs) first (two_octets b c bs second third o)
+
+op_octets : (o : Op) → is_op o ≡ true → Octets (op_bytes o)
+op_octets (Number v) h = octets_more 1 (low_first 4 (of_z w32 v)) (omega arith) (low_octets 4 (of_z w32 v))
+op_octets (Now s) h = two_octets 2 s [] (omega arith) (ltb-true s 256 h) octets_none
+op_octets (Past s b d) h =
     let p = and_parts (is_byte s) (within 1 8 b && is_value d) h in
     let q = and_parts (within 1 8 b) (is_value d) p.1 in
     let most = (within_parts 1 8 b q.0).1 in
-    (omega arith, (ltb-true s 256 p.0, (omega arith, low_small 4 (of_z w32 d))))
-op_small (Held s d) h = (omega arith, (ltb-true s 256 (and_parts (is_byte s) (is_value d) h).0, low_small 4 (of_z w32 d)))
-op_small (Window s k u d) h =
+    three_octets 3 s b (low_first 4 (of_z w32 d)) (omega arith) (ltb-true s 256 p.0) (omega arith) (low_octets 4 (of_z w32 d))
+op_octets (Held s d) h = two_octets 4 s (low_first 4 (of_z w32 d)) (omega arith) (ltb-true s 256 (and_parts (is_byte s) (is_value d) h).0) (low_octets 4 (of_z w32 d))
+op_octets (Window s k u d) h =
     let p = and_parts (is_byte s) (ltb u (2 ^ 32) && is_value d) h in
-    (omega arith, (ltb-true s 256 p.0, (kind_small k, All-append Small (low_first 4 u) (low_first 4 (of_z w32 d)) (low_small 4 u) (low_small 4 (of_z w32 d)))))
-op_small Add h = (omega arith, tt)
-op_small Subtract h = (omega arith, tt)
-op_small Multiply h = (omega arith, tt)
-op_small Less h = (omega arith, tt)
-op_small Equal h = (omega arith, tt)
-op_small Choose h = (omega arith, tt)
+    three_octets 5 s (kinds.number k) (low_first 4 u ++ low_first 4 (of_z w32 d)) (omega arith) (ltb-true s 256 p.0) (kind_small k) (octets_append (low_first 4 u) (low_first 4 (of_z w32 d)) (low_octets 4 u) (low_octets 4 (of_z w32 d)))
+op_octets Add h = octets_more 6 [] (omega arith) octets_none
+op_octets Subtract h = octets_more 7 [] (omega arith) octets_none
+op_octets Multiply h = octets_more 8 [] (omega arith) octets_none
+op_octets Less h = octets_more 9 [] (omega arith) octets_none
+op_octets Equal h = octets_more 10 [] (omega arith) octets_none
+op_octets Choose h = octets_more 11 [] (omega arith) octets_none
 
-ops_small : (os : List Op) → all is_op os ≡ true → All Small (ops_bytes os)
-ops_small [] h = tt
-ops_small (o ∷ os) h = let p = and_parts (is_op o) (all is_op os) h in All-append Small (op_bytes o) (ops_bytes os) (op_small o p.0) (ops_small os p.1)
+ops_octets : (os : List Op) → all is_op os ≡ true → Octets (ops_bytes os)
+ops_octets [] h = octets_none
+ops_octets (o ∷ os) h = let p = and_parts (is_op o) (all is_op os) h in octets_append (op_bytes o) (ops_bytes os) (op_octets o p.0) (ops_octets os p.1)
 
-period_small : (p : Pace) → All Small (period_bytes p)
-period_small Event = tt
-period_small (Every p) = low_small 4 p
+period_octets : (p : Pace) → Octets (period_bytes p)
+period_octets Event = octets_none
+period_octets (Every p) = low_octets 4 p
 
-content_small : (f : Said) → is_field f ≡ true → All Small (content_bytes f)
-content_small (life n) h = low_small 4 n
-content_small (input s) h = text_small 33 s (and_parts (within 1 16 (length s)) (all (within 33 126) s) h).1
-content_small (output o) h =
+content_octets : (f : Said) → is_field f ≡ true → Octets (content_bytes f)
+content_octets (life n) h = low_octets 4 n
+content_octets (input s) h = text_octets 33 s (and_parts (within 1 16 (length s)) (all (within 33 126) s) h).1
+content_octets (output o) h =
     let w = (output_parts o h).0 in
     let few = (within_parts 1 16 (length o.name) w.named).1 in
-    All-append Small (period_bytes o.pace) (length o.name ∷ (o.name ++ ops_bytes o.ops)) (period_small o.pace)
-    (omega arith, All-append Small o.name (ops_bytes o.ops) (text_small 33 o.name w.letters) (ops_small o.ops w.ranges))
-content_small (trigger g) h =
+    octets_append (period_bytes o.pace) (length o.name ∷ (o.name ++ ops_bytes o.ops)) (period_octets o.pace)
+    (octets_more (length o.name) (o.name ++ ops_bytes o.ops) (omega arith) (octets_append o.name (ops_bytes o.ops) (text_octets 33 o.name w.letters) (ops_octets o.ops w.ranges)))
+content_octets (trigger g) h =
     let p = and_parts (is_byte g.stream) (is_text 32 32 g.message) h in
-    (ltb-true g.stream 256 p.0, text_small 32 g.message (and_parts (within 1 32 (length g.message)) (all (within 32 126) g.message) p.1).1)
+    octets_more g.stream g.message (ltb-true g.stream 256 p.0) (text_octets 32 g.message (and_parts (within 1 32 (length g.message)) (all (within 32 126) g.message) p.1).1)
 
-pace_small : (p : Pace) → Small (tag_of_pace p)
+pace_small : (p : Pace) → tag_of_pace p < 256
 pace_small Event = omega arith
 pace_small (Every p) = omega arith
 
-tag_small : (f : Said) → Small (tag_of f)
+tag_small : (f : Said) → tag_of f < 256
 tag_small (life n) = omega arith
 tag_small (input s) = omega arith
 tag_small (output o) = pace_small o.pace
 tag_small (trigger g) = omega arith
 
-fields_small : (fs : List Said) (s : Stood) → Passes s fs → All Small (fields_bytes fs)
-fields_small [] s h = tt
-fields_small (f ∷ fs) s h =
+fields_octets : (fs : List Said) (s : Stood) → Passes s fs → Octets (fields_bytes fs)
+fields_octets [] s h = octets_none
+fields_octets (f ∷ fs) s h =
     let inner = content_bytes f in
-    All-append Small (field_bytes f) (fields_bytes fs)
-    (tag_small f, All-append Small (low_first 2 (length inner)) inner (low_small 2 (length inner)) (content_small f h.1))
-    (fields_small fs (next s f) h.3)
+    octets_append (field_bytes f) (fields_bytes fs)
+    (octets_more (tag_of f) (low_first 2 (length inner) ++ inner) (tag_small f) (octets_append (low_first 2 (length inner)) inner (low_octets 2 (length inner)) (content_octets f h.1)))
+    (fields_octets fs (next s f) h.3)
 
 pub written_bytes : (t : Table) → sound t ≡ true → Octets (write t)
-written_bytes t e = octets_from (write t) (fields_small (fields t) start (fields_pass t (sound_parts t e).parts).0)
+written_bytes t e = fields_octets (fields t) start (fields_pass t (sound_parts t e).parts).0
 
 -- SIZES
 

@@ -1,7 +1,6 @@
 -- What a lawful table is, in sentences.
-use Rattle.std.specs.Prelude.{◌≡◌, ℕ, suc, ◌+◌, ◌-◌, ◌*◌, ◌^◌, ◌<◌, ◌≤◌, ◌⊎◌, List, [], ◌∷◌, length, ℤ, FitsSigned, ◌≢◌, slice_index_or}
+use Rattle.std.specs.Prelude.{◌≡◌, ℕ, suc, ◌+◌, ◌-◌, ◌*◌, ◌^◌, ◌<◌, ◌≤◌, ◌⊎◌, List, length, ℤ, FitsSigned, All, Contains, ◌≢◌, slice_index_or}
 use Rattle.std.specs.Int.{w32}
-use Rattle.std.specs.List.{AllByRecursion}
 use Rattle.aggregates.specs.declared.kind.Kind.{Kind}
 use Rattle.tables.specs.declared.op.Op.{Op}
 use Rattle.tables.specs.declared.op.Op.TheVariants.{Number, Now, Past, Held, Window, Add, Subtract, Multiply, Less, Equal, Choose}
@@ -22,7 +21,7 @@ Between low high n = (low ≤ n) × (n ≤ high)
 -- 1 to `most` bytes, each from `low` to 126
 pub record Text (low most : ℕ) (s : List ℕ) : Type 0 where
   pub long : Between 1 most (length s)
-  pub letters : AllByRecursion (Between low 126) s
+  pub letters : All (Between low 126) s
 
 -- the operands of an operation: streams are bytes, values have 32 bits with a sign
 abbrev pub InRange : Op → Type 0
@@ -65,7 +64,7 @@ pub record OutputInRange (o : Output) : Type 0 where
   pub named : Text 33 16 o.name
   -- how many operations, and their operands
   pub counted : Between 1 16 (length o.ops)
-  pub ranges : AllByRecursion InRange o.ops
+  pub ranges : All InRange o.ops
 
 -- an output, with its stack
 pub record WholeOutput (o : Output) : Type 0 where
@@ -87,9 +86,9 @@ pub record WholeTable (t : Table) : Type 0 where
   pub triggers : length t.triggers ≤ 8
   pub windows : windows_in_all t.outputs ≤ 8
   -- each of them
-  pub each_input : AllByRecursion (Text 33 16) t.inputs
-  pub each_output : AllByRecursion WholeOutput t.outputs
-  pub each_trigger : AllByRecursion WholeTrigger t.triggers
+  pub each_input : All (Text 33 16) t.inputs
+  pub each_output : All WholeOutput t.outputs
+  pub each_trigger : All WholeTrigger t.triggers
 
 -- THE RULES ON READING
 
@@ -119,16 +118,11 @@ pub record OpKeeps (t : Table) (me : ℕ) (pace : Pace) (x : Op) : Type 0 where
   pub windows : (s : ℕ) (kind : Kind) (duration : ℕ) (default : ℤ) → x ≡ Window s kind duration default
       → (period : ℕ) × (panes : ℕ) × (pace ≡ Every period) × (pace_of t s ≡ Event) × Between 1 16 panes × (duration ≡ panes * period)
 
--- it stands in the list
-abbrev pub In : {X : Type 0} → X → List X → Type 0
-In x [] = ⊥
-In x (y ∷ ys) = (x ≡ y) ⊎ In x ys
-
 -- the output that is stream `me` keeps the rules
 pub record OutputKeeps (t : Table) (me : ℕ) (o : Output) : Type 0 where
-  pub each : AllByRecursion (OpKeeps t me o.pace) o.ops
+  pub each : All (OpKeeps t me o.pace) o.ops
   -- an event-based output uses now or past on at least one other stream
-  pub driven : o.pace ≡ Event → (x : Op) × (s : ℕ) × In x o.ops × Meets x s × (s ≢ me)
+  pub driven : o.pace ≡ Event → (x : Op) × (s : ℕ) × Contains o.ops x × Meets x s × (s ≢ me)
 
 -- a trigger names an output
 abbrev pub TriggerKeeps : Table → Trigger → Type 0
@@ -143,7 +137,7 @@ pub record Reads (t : Table) (a b : ℕ) : Type 0 where
   pub two : b < length t.outputs
   pub apart : b ≡ a → ⊥
   -- an operation of a is such a read
-  pub by : (x : Op) × In x (output_at t a).ops × Asks x (length t.inputs + b)
+  pub by : (x : Op) × Contains (output_at t a).ops x × Asks x (length t.inputs + b)
 
 -- a chain of reads that returns to its start
 pub record Circle (t : Table) : Type 0 where
@@ -165,7 +159,7 @@ pub record Sound (t : Table) : Type 0 where
   pub parts : WholeTable t
   -- the outputs are the streams after the inputs
   pub outputs : (a : ℕ) → a < length t.outputs → OutputKeeps t (length t.inputs + a) (output_at t a)
-  pub triggers : AllByRecursion (TriggerKeeps t) t.triggers
+  pub triggers : All (TriggerKeeps t) t.triggers
   pub no_circle : Circle t → ⊥
 
 -- bytes are lawful where they are a sound table's: its life, its inputs, its outputs and its triggers, each in a frame

@@ -1,5 +1,5 @@
 -- Layers tell whether there is a circle.
-use Rattle.std.proofs.Common.{◌≡◌, ℕ, zero, suc, ◌+◌, max, Bool, ◌&&◌, List, [], ◌∷◌, length, Some, None, Option, refl, ◌∙◌, ap₂}
+use Rattle.std.proofs.Common.{◌≡◌, ℕ, zero, suc, ◌+◌, max, ◌&&◌, List, [], ◌∷◌, length, Some, None, Option, refl, ◌∙◌}
 use Rattle.tables.specs.declared.op.Op.{Op}
 use Rattle.tables.specs.declared.op.Op.TheVariants.{Number, Now, Past, Held, Window, Add, Subtract, Multiply, Less, Equal, Choose}
 use Rattle.tables.specs.Asking.{asked_stream, other_at}
@@ -34,24 +34,16 @@ greatest_some f (x ∷ xs) top = by (f x) (λ n. greatest_some f xs (max top n))
     by None more = refl
     by (Some n) more = more n
 
-all_same : (f g : ℕ → Bool) → ((a : ℕ) → f a ≡ g a) → (xs : List ℕ) → all f xs ≡ all g xs
-all_same f g same [] = refl
-all_same f g same (x ∷ xs) = ap₂ (λ b c. b && c) (same x) (all_same f g same xs)
-
-below_same : (f g : ℕ → Bool) → ((a : ℕ) → f a ≡ g a) → (n : ℕ) → below f n ≡ below g n
-below_same f g same zero = refl
-below_same f g same (suc n) = ap₂ (λ b c. b && c) (same n) (below_same f g same n)
-
 -- a layer at a depth is there exactly where every chain of reads is shorter
 layer_ends : (r : ℕ → List ℕ) (d a : ℕ) → is_some (layer r d a) ≡ ends r d a
 layer_ends r zero a = refl
 layer_ends r (suc d) a =
     one_more (greatest (layer r d) (r a) 0)
     ∙ greatest_some (layer r d) (r a) 0
-    ∙ all_same (λ b. is_some (layer r d b)) (ends r d) (layer_ends r d) (r a)
+    ∙ (λ i. all (λ b. layer_ends r d b i) (r a))
 
 layers_end : (r : ℕ → List ℕ) (d n : ℕ) → below (λ a. is_some (layer r d a)) n ≡ below (ends r d) n
-layers_end r d n = below_same (λ a. is_some (layer r d a)) (ends r d) (layer_ends r d) n
+layers_end r d n i = below (λ a. layer_ends r d a i) n
 
 -- each output has a layer exactly where there is no circle
 pub has_layers_is : (t : Table) → has_layers t ≡ no_circle t

@@ -61,8 +61,9 @@ module _ {Y : Type 0} (w : ℕ) (k : Op → List ℕ → Result Y ℕ) where
   operands_onward (suc (suc (suc (suc (suc (suc (suc (suc (suc (suc (suc zero))))))))))) bs = refl
   operands_onward (suc (suc (suc (suc (suc (suc (suc (suc (suc (suc (suc (suc n)))))))))))) bs = refl
 
-pub never : {X Y : Type 0} {e : ℕ} {x : X} → Err e ≡ Ok x → Y
-never p = let z : ◌≡◌ {A = ℕ} 0 1 = cc in absurd (omega arith)
+-- no value is a refusal
+pub never : {X Y E : Type 0} {e : E} {x : X} → Err e ≡ Ok x → Y
+never p = absurd cc
 
 test_weaker : {X : Type 0} (b d : Bool) (e : ℕ) (k : List ℕ → Result X ℕ) (bs : List ℕ) (x : X) → (b ≡ true → d ≡ true) → test b e k bs ≡ Ok x → test d e k bs ≡ Ok x
 test_weaker true d e k bs x h is = ap (λ t. test t e k bs) (h refl) ∙ is

@@ -5,6 +5,7 @@ ghost use Rattle.std.specs.List.{list_all};
 ghost use Rattle.tables.specs.declared.flaw.Flaw.TheVariants.{Order};
 ghost use Rattle.tables.specs.Fields as fields;
 ghost use Rattle.tables.specs.Flaws.{numbered};
+ghost use Rattle.tables.specs.Fronts.{front, kept};
 ghost use Rattle.tables.specs.Reading as reading;
 ghost use Rattle.tables.specs.Tags.{Decodes, tag_number};
 ghost use Rattle.tables.specs.Worked as cases;
@@ -76,7 +77,7 @@ impl From<UnknownTag> for Flaw {
     }
 }
 
-#[derive(Clone, Copy)]
+#[derive(Clone, Copy, PartialEq, Eq, Debug)]
 pub enum Field<'a> {
     // The life: how many entries a monitor may make.
     Life(u32),
@@ -118,13 +119,21 @@ fn text_to_end(bytes: &[u8], low: u8, most: usize) -> Result<(), Flaw>
     Ok(())
 }
 
+// A number from 1 to the greatest, in four bytes, and the bytes after it.
+fn up_to(bytes: &[u8], most: u32) -> Result<(u32, &[u8]), Flaw>
+    ensures { front result ≡ reading.word (λ n. reading.test (reading.within 1 most n) 4 (kept n)) bytes.now }
+{
+    let (n, rest) = word(bytes)?;
+    if !(1..=most).contains(&n) {
+        return Err(Flaw::Range);
+    }
+    Ok((n, rest))
+}
+
 fn life(bytes: &[u8]) -> Result<Field<'_>, Flaw>
     ensures { fields.said result ≡ reading.content 1 0 bytes.now }
 {
-    let (life, rest) = word(bytes)?;
-    if !(1..=2_000_000_000).contains(&life) {
-        return Err(Flaw::Range);
-    }
+    let (life, rest) = up_to(bytes, 2_000_000_000)?;
     if !rest.is_empty() {
         return Err(Flaw::Extent);
     }
@@ -174,10 +183,7 @@ fn output(pace: Pace, bytes: &[u8], windows: u8) -> Result<Field<'_>, Flaw>
 fn periodic(bytes: &[u8], windows: u8) -> Result<Field<'_>, Flaw>
     ensures { fields.said result ≡ reading.content 4 windows bytes.now }
 {
-    let (period, rest) = word(bytes)?;
-    if !(1..=86_400_000).contains(&period) {
-        return Err(Flaw::Range);
-    }
+    let (period, rest) = up_to(bytes, 86_400_000)?;
     output(Pace::Every(period), rest, windows)
 }
 
