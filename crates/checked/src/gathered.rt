@@ -4,7 +4,8 @@ ghost use Rattle.std.specs.Prelude.{◌≡◌, ◌≤◌, length};
 use crate::parts::Parts;
 use fixed::FixedVec;
 
-// The parts so far, how many lives and windows stood, and the first bytes of the fields of outputs and triggers.
+// The parts so far, how many lives and windows stood, and the first bytes of the fields of outputs and triggers. The
+// places stand beside the parts, and not in them, since the parts go on without them.
 #[derive(Clone, Copy)]
 pub struct Gathered {
     pub parts: Parts,

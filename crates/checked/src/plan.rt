@@ -26,6 +26,7 @@ impl Blank for Window {
     }
 }
 
+// Layers and needs are two vectors, since the layers are known first and the order is worked out by them alone.
 #[derive(Clone, Copy)]
 pub struct Plan {
     // The layer of each output.

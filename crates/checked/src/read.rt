@@ -22,20 +22,12 @@ fn from_bytes(bytes: &[u8]) -> Result<Table, Refused>
     Ok(Table { parts, plan, size })
 }
 
-// The same, with what the answer means.
-fn judged(bytes: &[u8]) -> Result<Table, Refused>
-    ensures value { checking.told result ≡ tables.read bytes.now }
-    ensures right { checking.Right bytes.now result }
-{
-    from_bytes(bytes)
-}
-
 impl Table {
     // The table that some bytes say; or the flaw that refuses them, with its place.
     pub fn read(bytes: &[u8]) -> Result<Table, Refused>
         ensures value { checking.told result ≡ tables.read bytes.now }
         ensures right { checking.Right bytes.now result }
     {
-        judged(bytes)
+        from_bytes(bytes)
     }
 }

@@ -4,12 +4,12 @@ ghost use Rattle.records.specs.Entries.{sign};
 
 // What an entry tells of: a reading whose cycle ran (R), a deadline whose cycle ran (D), a reading that came late (L)
 // and a strange one (S), which names an input that the table has not.
-#[derive(Clone, Copy)]
+#[derive(Clone, Copy, PartialEq, Eq, Debug)]
 pub enum Letter {
-    R,
-    D,
-    L,
-    S,
+    R = b'R' as isize,
+    D = b'D' as isize,
+    L = b'L' as isize,
+    S = b'S' as isize,
 }
 
 impl Letter {
@@ -17,18 +17,13 @@ impl Letter {
     pub fn sign(self) -> u8
         ensures { result ≡ sign self }
     {
-        match self {
-            Letter::R => b'R',
-            Letter::D => b'D',
-            Letter::L => b'L',
-            Letter::S => b'S',
-        }
+        self as u8
     }
 }
 
 // Bit i of the mask stands for input i, bit o of `active` for output o, and bit g of `lit` for trigger g.
 // A value is 0 where its output is not active.
-#[derive(Clone, Copy)]
+#[derive(Clone, Copy, PartialEq, Eq, Debug)]
 pub struct Entry {
     pub letter: Letter,
     pub time: u64,
