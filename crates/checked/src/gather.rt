@@ -128,6 +128,7 @@ pub(crate) fn gather(bytes: &[u8]) -> Result<Gathered, Refused>
     ensures { gathering.AllRead bytes.now result }
 {
     let mut gathered = Gathered::new();
+    // A refusal names the place, so it is counted, and not only what is left.
     let mut at = 0;
     while at < bytes.len() {
         at += gathered.field(bytes, at)?;

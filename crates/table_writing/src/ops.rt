@@ -7,7 +7,8 @@ ghost use Rattle.table_writing.specs.Writing.{Wrote};
 use crate::writer::Writer;
 use tables::op::{Op, Program};
 
-// The byte that stands for an operation.
+// The byte that stands for an operation. An enum of these bytes would list the operations once more beside `Op`, and
+// be no plainer.
 fn code(op: Op) -> u8
     ensures { op_bytes op ≡ result ∷ drop 1 (op_bytes op) }
 {
