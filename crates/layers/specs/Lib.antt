@@ -1,2 +1,3 @@
-pub mod Rows
 pub mod Layers
+pub mod Rows
+pub mod Whole

@@ -1,14 +1,9 @@
--- Rows that hold items.
-use Rattle.std.specs.Prelude.{◌≡◌}
+-- The items that rows hold.
+use Rattle.std.specs.Prelude.{ℕ, List, map, take}
 use Rattle.items.specs.declared.item.Item.{Item}
-use Rattle.items.specs.declared.item.Item.TheVariants.{Marked}
 use Rattle.items.specs.declared.item.Row.{Row}
-use Rattle.items.specs.Items.{item_of, mark_of, row_of}
+use Rattle.items.specs.Items.{item_of}
 
--- the row is that of an item, so that it makes this item
-abbrev pub IsRow : Row → Type 0
-IsRow row = row_of (item_of row) ≡ row
-
--- what stands where no item is kept
-abbrev pub blank : Item
-blank = Marked (mark_of 0)
+-- the items of the first rows
+abbrev pub held : List Row → (used : ℕ) → List Item
+held rows used = map item_of (take used rows)

@@ -4,7 +4,7 @@
 pub mod cover;
 mod port;
 mod queue;
-mod stored;
+mod rows;
 
 pub use port::Port;
 pub use queue::Queue;

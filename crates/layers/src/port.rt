@@ -1,9 +1,9 @@
 // The port: a feed of 32 places.
-ghost use Rattle.std.specs.Prelude.{◌≡◌, ◌≤◌, [], length};
+ghost use Rattle.std.specs.Prelude.{◌≡◌, []};
 ghost use Rattle.layers.specs.Layers.{empty, port};
+ghost use Rattle.layers.specs.Rows.{held};
 
-use crate::stored::Stored;
-use fixed::FixedVec;
+use crate::rows::Rows;
 use items::cause::{End, Refusal};
 use items::feed::Feed;
 use items::item::Item;
@@ -13,27 +13,24 @@ const PLACES: usize = 32;
 
 #[derive(Clone, Copy)]
 pub struct Port {
-    waits: FixedVec<Stored, PLACES>,
-    ghost few: { length waits ≤ 32 },
+    waits: Rows<PLACES>,
 }
 
 impl Port {
     pub fn new() -> Port
-        ensures { port result.waits ≡ empty 32 }
+        ensures { port (held result.waits.rows result.waits.used) ≡ empty 32 }
     {
-        Port {
-            waits: FixedVec::new(),
-        }
+        Port { waits: Rows::new() }
     }
 }
 
 impl Source for Port {
-    ghost meaning = { λ p. port p.waits };
+    ghost meaning = { λ p. port (held p.waits.rows p.waits.used) };
 
     ghost queues = { λ _. [] };
 
     fn take(&mut self, place: &mut Item) -> Result<(), End> {
-        *place = self.waits.pop_front().ok_or(End::Dry)?.into();
+        *place = self.waits.pop_front().ok_or(End::Dry)?;
         Ok(())
     }
 
@@ -48,6 +45,6 @@ impl Feed for Port {
     }
 
     fn put(&mut self, item: Item) -> Result<(), Refusal> {
-        self.waits.push(item.into()).map_err(|_| Refusal::Full)
+        self.waits.push(item).map_err(|_| Refusal::Full)
     }
 }

@@ -2,9 +2,9 @@
 ghost use Rattle.std.specs.Prelude.{◌≡◌, ◌∷◌, []};
 ghost use Rattle.items.specs.Sources.{Kept, Filled};
 ghost use Rattle.layers.specs.Layers as layers;
+ghost use Rattle.layers.specs.Rows.{held};
 
-use crate::stored::Stored;
-use fixed::FixedVec;
+use crate::rows::Rows;
 use items::cause::{End, Refusal};
 use items::feed::Feed;
 use items::item::{Item, Mark};
@@ -15,18 +15,18 @@ const PLACES: usize = 64;
 #[derive(Drop)]
 pub struct Queue<S> {
     below: S,
-    own: FixedVec<Stored, PLACES>,
+    own: Rows<PLACES>,
 }
 
 impl<S: Source> Queue<S> {
     pub fn new(below: S) -> Queue<S>
-        ensures means { layers.queue result.own (S.Source.meaning result.below) ≡ layers.queue [] (S.Source.meaning below) }
-        ensures none { result.own ≡ [] }
+        ensures means { layers.queue (held result.own.rows result.own.used) (S.Source.meaning result.below) ≡ layers.queue [] (S.Source.meaning below) }
+        ensures none { held result.own.rows result.own.used ≡ [] }
         ensures same { result.below ≡ below }
     {
         Queue {
             below,
-            own: FixedVec::new(),
+            own: Rows::new(),
         }
     }
 
@@ -40,7 +40,7 @@ impl<S: Source> Queue<S> {
         let mut place = Item::Marked(Mark { time: 0 });
         for moved in 0..most {
             match self.below.take(&mut place) {
-                Ok(()) => self.own.push(place.into()).unwrap(),
+                Ok(()) => self.own.push(place).unwrap(),
                 Err(_) => return moved,
             }
         }
@@ -49,14 +49,14 @@ impl<S: Source> Queue<S> {
 }
 
 impl<S: Source> Source for Queue<S> {
-    ghost meaning = { λ q. layers.queue q.own (S.Source.meaning q.below) };
+    ghost meaning = { λ q. layers.queue (held q.own.rows q.own.used) (S.Source.meaning q.below) };
 
-    ghost queues = { λ q. layers.queued q.own (S.Source.meaning q.below) ∷ S.Source.queues q.below };
+    ghost queues = { λ q. layers.queued (held q.own.rows q.own.used) (S.Source.meaning q.below) ∷ S.Source.queues q.below };
 
     fn take(&mut self, place: &mut Item) -> Result<(), End> {
         match self.own.pop_front() {
-            Some(stored) => {
-                *place = stored.into();
+            Some(item) => {
+                *place = item;
                 Ok(())
             }
             None => self.below.take(place).map_err(End::farther),

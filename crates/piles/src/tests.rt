@@ -58,12 +58,6 @@ fn queues_over_a_port(rt: HostRuntime) -> Result<(), Fail> {
     Ok(())
 }
 
-// A cover between queues. It is made for any source, since a queue over a log reader that is named as such and passed
-// on by value gets no proof from the check yet.
-fn covered<S: Source>(below: S, mask: u8) -> Queue<Cover<Queue<S>>> {
-    Queue::new(Cover::new(Queue::new(below), mask))
-}
-
 // A reading of inputs 0 and 1 at 5, one of input 1 at 6, and a field that is cut short.
 const LOG: [u8; 37] = [
     16, 17, 0, 5, 0, 0, 0, 0, 0, 0, 0, 3, 7, 0, 0, 0, 9, 0, 0, 0, 16, 13, 0, 6, 0, 0, 0, 0, 0, 0,
@@ -72,7 +66,7 @@ const LOG: [u8; 37] = [
 
 #[test]
 fn a_cover_between_queues_over_a_log(rt: HostRuntime) -> Result<(), Fail> {
-    let mut pile = covered(LogReader::new(&LOG), 1);
+    let mut pile = Queue::new(Cover::new(Queue::new(LogReader::new(&LOG)), 1));
     assert_eq!(rt; pile.fill_queue(1, 1), Some(1));
     assert_eq!(rt; pile.fill_queue(0, 9), Some(2));
     let mut place = Item::Marked(Mark { time: 0 });

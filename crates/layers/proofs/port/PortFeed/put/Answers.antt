@@ -1,8 +1,10 @@
-use Rattle.layers.proofs.Storing.{port_stored, stored_few}
+use Rattle.std.proofs.Common.{ap, ◌∙◌, arith}
+use Rattle.layers.specs.Layers.{port}
+use Rattle.layers.specs.Rows.{held}
+use Rattle.layers.proofs.Storing.{held_long, port_put}
 use Rattle.layers.proofs.port.PortFeed.put.Goals as goal
 
-pub invariant_of-self : goal.invariant_of-self
-invariant_of-self c = record { few = stored_few 32 c.args.item c.into.result c.args.self.now.waits c.push.new.self c.push.ensures.pushes c.into.ensures }
-
 pub returns-clause-appends : goal.returns-clause-appends
-returns-clause-appends c = port_stored c.args.item c.into.result c.args.self.now.waits c.push.new.self c.push.ensures.pushes c.into.ensures c.args.self.now.few
+returns-clause-appends c =
+    let r = c.args.self.now.waits in
+    ap port c.push.ensures.pushes ∙ port_put c.args.item (held r.rows r.used) (omega (arith, held_long r.rows r.used (omega (arith, r.within, r.long)), r.within))

@@ -1,0 +1,66 @@
+// Items in fixed memory, as plain rows, the first one first. An item is made of its row again, after a check.
+ghost use Rattle.std.specs.Prelude.{◌≡◌, ◌≤◌, length};
+ghost use Rattle.layers.specs.Whole.{WholeTo};
+
+use fixed::Full;
+use items::item::{Item, Row};
+
+// This is no `FixedVec`, which a contract would see as its list: over lent bytes a pile of layers that hold such vectors
+// gets no proof from the checker where it is passed on by value.
+#[derive(Clone, Copy)]
+pub(crate) struct Rows<const N: usize> {
+    rows: [Row; N],
+    used: usize,
+    ghost within: { used ≤ N },
+    ghost long: { length rows ≡ N },
+    ghost whole: { WholeTo used rows },
+}
+
+impl<const N: usize> Rows<N> {
+    ghost use Rattle.std.specs.Prelude.{[], drop, slice_get};
+    ghost use Rattle.fixed.specs.Pushing.{pushed, push_answer};
+    ghost use Rattle.layers.specs.Rows.{held};
+
+    pub fn new() -> Rows<N>
+        ensures { held result.rows result.used ≡ [] }
+    {
+        Rows {
+            rows: [Row::Marked(0); N],
+            used: 0,
+        }
+    }
+
+    pub fn len(&self) -> usize
+        ensures count { result ≡ length (held self.now.rows self.now.used) }
+        ensures few { result ≤ N }
+    {
+        self.used
+    }
+
+    // Puts an item behind the others; refused where no place is free.
+    pub fn push(&mut self, item: Item) -> Result<(), Full>
+        ensures answers { result ≡ push_answer N (held self.old.rows self.old.used) }
+        ensures pushes { held self.new.rows self.new.used ≡ pushed N item (held self.old.rows self.old.used) }
+    {
+        if self.used == N {
+            return Err(Full);
+        }
+        self.rows[self.used] = item.row();
+        self.used += 1;
+        Ok(())
+    }
+
+    // Takes the first item out, where there is one; the others move down.
+    pub fn pop_front(&mut self) -> Option<Item>
+        ensures answers { result ≡ slice_get (held self.old.rows self.old.used) 0 }
+        ensures drops { held self.new.rows self.new.used ≡ drop 1 (held self.old.rows self.old.used) }
+    {
+        if self.used == 0 {
+            return None;
+        }
+        let first = self.rows[0];
+        self.rows.rotate_left(1);
+        self.used -= 1;
+        Some(first.item().unwrap())
+    }
+}
