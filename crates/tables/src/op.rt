@@ -5,7 +5,7 @@ use aggregates::kind::Kind;
 use fixed::{Blank, FixedVec};
 
 // An operation. The first five push a value on a stack; the others replace the topmost values by one.
-#[derive(Clone, Copy)]
+#[derive(Clone, Copy, PartialEq, Eq, Debug)]
 pub enum Op {
     Number(i32),
     // The value that a stream has in this cycle.

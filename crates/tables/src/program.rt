@@ -79,7 +79,8 @@ fn window(bytes: &[u8], windows: u8) -> Result<(Op, &[u8]), Flaw>
     Ok((window, rest))
 }
 
-// The first operation.
+// The first operation. Its code is matched here, once, where bytes become an `Op`: an enum of codes between them would
+// list the operations once more, and be no plainer.
 fn first(bytes: &[u8], windows: u8) -> Result<(Op, &[u8]), Flaw>
     ensures { front result ≡ programs.first_op windows bytes.now }
 {
