@@ -21,6 +21,7 @@ pub enum Unread {
     Failed(#[from] io::Error),
 }
 
+// By hand: `#[from]` would want a case of its own for it.
 impl From<AllocError> for Unread {
     fn from(e: AllocError) -> Unread {
         Unread::Failed(io::Error::from(e))

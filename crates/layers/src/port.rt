@@ -1,7 +1,7 @@
 // The port: a feed of 32 places.
 ghost use Rattle.std.specs.Prelude.{◌≡◌, []};
 ghost use Rattle.layers.specs.Layers.{empty, port};
-ghost use Rattle.layers.specs.Rows.{held};
+ghost use Rattle.layers.specs.Rows.{kept};
 
 use crate::rows::Rows;
 use items::cause::{End, Refusal};
@@ -18,14 +18,14 @@ pub struct Port {
 
 impl Port {
     pub fn new() -> Port
-        ensures { port (held result.waits.rows result.waits.used) ≡ empty 32 }
+        ensures { port (kept result.waits) ≡ empty 32 }
     {
         Port { waits: Rows::new() }
     }
 }
 
 impl Source for Port {
-    ghost meaning = { λ p. port (held p.waits.rows p.waits.used) };
+    ghost meaning = { λ p. port (kept p.waits) };
 
     ghost queues = { λ _. [] };
 

@@ -2,7 +2,7 @@
 ghost use Rattle.std.specs.Prelude.{◌≡◌, ◌∷◌, []};
 ghost use Rattle.items.specs.Sources.{Kept, Filled};
 ghost use Rattle.layers.specs.Layers as layers;
-ghost use Rattle.layers.specs.Rows.{held};
+ghost use Rattle.layers.specs.Rows.{kept};
 
 use crate::rows::Rows;
 use items::cause::{End, Refusal};
@@ -20,8 +20,8 @@ pub struct Queue<S> {
 
 impl<S: Source> Queue<S> {
     pub fn new(below: S) -> Queue<S>
-        ensures means { layers.queue (held result.own.rows result.own.used) (S.Source.meaning result.below) ≡ layers.queue [] (S.Source.meaning below) }
-        ensures none { held result.own.rows result.own.used ≡ [] }
+        ensures means { layers.queue (kept result.own) (S.Source.meaning result.below) ≡ layers.queue [] (S.Source.meaning below) }
+        ensures none { kept result.own ≡ [] }
         ensures same { result.below ≡ below }
     {
         Queue {
@@ -49,9 +49,9 @@ impl<S: Source> Queue<S> {
 }
 
 impl<S: Source> Source for Queue<S> {
-    ghost meaning = { λ q. layers.queue (held q.own.rows q.own.used) (S.Source.meaning q.below) };
+    ghost meaning = { λ q. layers.queue (kept q.own) (S.Source.meaning q.below) };
 
-    ghost queues = { λ q. layers.queued (held q.own.rows q.own.used) (S.Source.meaning q.below) ∷ S.Source.queues q.below };
+    ghost queues = { λ q. layers.queued (kept q.own) (S.Source.meaning q.below) ∷ S.Source.queues q.below };
 
     fn take(&mut self, place: &mut Item) -> Result<(), End> {
         match self.own.pop_front() {

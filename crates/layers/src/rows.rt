@@ -19,10 +19,10 @@ pub(crate) struct Rows<const N: usize> {
 impl<const N: usize> Rows<N> {
     ghost use Rattle.std.specs.Prelude.{[], drop, slice_get};
     ghost use Rattle.fixed.specs.Pushing.{pushed, push_answer};
-    ghost use Rattle.layers.specs.Rows.{held};
+    ghost use Rattle.layers.specs.Rows.{kept};
 
     pub fn new() -> Rows<N>
-        ensures { held result.rows result.used ≡ [] }
+        ensures { kept result ≡ [] }
     {
         Rows {
             rows: [Row::Marked(0); N],
@@ -31,7 +31,7 @@ impl<const N: usize> Rows<N> {
     }
 
     pub fn len(&self) -> usize
-        ensures count { result ≡ length (held self.now.rows self.now.used) }
+        ensures count { result ≡ length (kept self.now) }
         ensures few { result ≤ N }
     {
         self.used
@@ -39,8 +39,8 @@ impl<const N: usize> Rows<N> {
 
     // Puts an item behind the others; refused where no place is free.
     pub fn push(&mut self, item: Item) -> Result<(), Full>
-        ensures answers { result ≡ push_answer N (held self.old.rows self.old.used) }
-        ensures pushes { held self.new.rows self.new.used ≡ pushed N item (held self.old.rows self.old.used) }
+        ensures answers { result ≡ push_answer N (kept self.old) }
+        ensures pushes { kept self.new ≡ pushed N item (kept self.old) }
     {
         if self.used == N {
             return Err(Full);
@@ -52,8 +52,8 @@ impl<const N: usize> Rows<N> {
 
     // Takes the first item out, where there is one; the others move down.
     pub fn pop_front(&mut self) -> Option<Item>
-        ensures answers { result ≡ slice_get (held self.old.rows self.old.used) 0 }
-        ensures drops { held self.new.rows self.new.used ≡ drop 1 (held self.old.rows self.old.used) }
+        ensures answers { result ≡ slice_get (kept self.old) 0 }
+        ensures drops { kept self.new ≡ drop 1 (kept self.old) }
     {
         if self.used == 0 {
             return None;

@@ -1,5 +1,5 @@
 -- Bytes written into a lent buffer.
-use Rattle.std.specs.Prelude.{◌≡◌, ℕ, ◌+◌, ◌-◌, cond, List, ◌∷◌, ◌++◌, length, take, drop, Ok, Err, Result, nat_le}
+use Rattle.std.specs.Prelude.{◌≡◌, ℕ, ◌+◌, ◌-◌, ◌≤◌, cond, List, ◌∷◌, ◌++◌, length, take, drop, Ok, Err, Result, nat_le}
 use Rattle.frames.specs.Frames.{low_first}
 use Rattle.tables.specs.declared.field.Tag.{Tag}
 use Rattle.tables.specs.declared.flaw.Refused.{Refused}
@@ -25,6 +25,10 @@ with_more bytes h = record { done = h.done ++ bytes; rest = drop (length bytes) 
 -- with a header over the three bytes at a place
 abbrev pub headed : (start : ℕ) → Tag → Halves → Halves
 headed start tag h = record { done = take start h.done ++ ((tag_number tag ∷ low_first 2 (length h.done - (start + 3))) ++ drop (start + 3) h.done); rest = h.rest }
+
+-- there is room for some bytes
+abbrev pub Fits : List ℕ → Writer → Type 0
+Fits bytes out = out.at + length bytes ≤ length out.buffer.now
 
 -- bytes were written behind the others
 pub record Wrote (bytes : List ℕ) (before now : Writer) : Type 0 where

@@ -3,7 +3,7 @@ ghost use Rattle.std.specs.Prelude.{◌≡◌, ◌+◌, ◌≤◌, length, map};
 ghost use Rattle.tables.specs.Kinds as kinds;
 ghost use Rattle.tables.specs.Tables.{content_bytes, field_bytes, fields_bytes, tag_of};
 ghost use Rattle.tables.specs.Tags.{tag_number};
-ghost use Rattle.table_writing.specs.Writing.{Wrote};
+ghost use Rattle.table_writing.specs.Writing.{Fits, Wrote};
 
 use crate::ops::put_ops;
 use crate::writer::Writer;
@@ -21,7 +21,7 @@ pub(crate) trait Content {
 
     // Writes the field's content.
     fn put(&self, out: &mut Writer)
-        requires { out.old.at + length (content_bytes (said self.now)) ≤ length out.old.buffer.now }
+        requires { Fits (content_bytes (said self.now)) out.old }
         ensures { Wrote (content_bytes (said self.now)) out.old out.new };
 }
 
@@ -94,7 +94,7 @@ impl Content for Trigger {
 
 // Writes a field: its header, and its content.
 pub(crate) fn put_field<T: Content>(out: &mut Writer, field: &T)
-    requires { out.old.at + length (field_bytes (T.said field.now)) ≤ length out.old.buffer.now }
+    requires { Fits (field_bytes (T.said field.now)) out.old }
     ensures { Wrote (field_bytes (T.said field.now)) out.old out.new }
 {
     let start = out.len();
@@ -105,7 +105,7 @@ pub(crate) fn put_field<T: Content>(out: &mut Writer, field: &T)
 
 // Writes fields, one behind another.
 pub(crate) fn put_fields<T: Content>(out: &mut Writer, fields: &[T])
-    requires { out.old.at + length (fields_bytes (map T.said fields.now)) ≤ length out.old.buffer.now }
+    requires { Fits (fields_bytes (map T.said fields.now)) out.old }
     ensures { Wrote (fields_bytes (map T.said fields.now)) out.old out.new }
 {
     for field in fields {

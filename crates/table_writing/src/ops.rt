@@ -2,7 +2,7 @@
 ghost use Rattle.std.specs.Prelude.{◌≡◌, ◌+◌, ◌≤◌, ◌∷◌, length, drop};
 ghost use Rattle.tables.specs.Programs.{listed};
 ghost use Rattle.tables.specs.Tables.{op_bytes, ops_bytes};
-ghost use Rattle.table_writing.specs.Writing.{Wrote};
+ghost use Rattle.table_writing.specs.Writing.{Fits, Wrote};
 
 use crate::writer::Writer;
 use tables::op::{Op, Program};
@@ -29,7 +29,7 @@ fn code(op: Op) -> u8
 
 // Writes the operands of an operation.
 fn put_operands(out: &mut Writer, op: Op)
-    requires { out.old.at + length (drop 1 (op_bytes op)) ≤ length out.old.buffer.now }
+    requires { Fits (drop 1 (op_bytes op)) out.old }
     ensures { Wrote (drop 1 (op_bytes op)) out.old out.new }
 {
     match op {
@@ -63,7 +63,7 @@ fn put_operands(out: &mut Writer, op: Op)
 
 // Writes an operation.
 fn put_op(out: &mut Writer, op: Op)
-    requires { out.old.at + length (op_bytes op) ≤ length out.old.buffer.now }
+    requires { Fits (op_bytes op) out.old }
     ensures { Wrote (op_bytes op) out.old out.new }
 {
     out.put(&[code(op)]);
@@ -72,7 +72,7 @@ fn put_op(out: &mut Writer, op: Op)
 
 // Writes the operations of an output.
 pub(crate) fn put_ops(out: &mut Writer, program: &Program)
-    requires { out.old.at + length (ops_bytes (listed program.now)) ≤ length out.old.buffer.now }
+    requires { Fits (ops_bytes (listed program.now)) out.old }
     ensures { Wrote (ops_bytes (listed program.now)) out.old out.new }
 {
     for op in &program.ops {

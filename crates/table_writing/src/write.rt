@@ -13,7 +13,7 @@ use tables::flaw::{Flaw, Refused};
 
 // Writes all fields of a table.
 fn put_parts(out: &mut Writer, parts: &Parts)
-    requires { out.old.at + length (tables.write (said parts.now)) ≤ length out.old.buffer.now }
+    requires { writing.Fits (tables.write (said parts.now)) out.old }
     ensures { writing.Wrote (tables.write (said parts.now)) out.old out.new }
 {
     put_field(out, &Life(parts.life));

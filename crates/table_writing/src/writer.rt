@@ -12,7 +12,7 @@ pub(crate) struct Writer<'a> {
 }
 
 impl<'a> Writer<'a> {
-    ghost use Rattle.table_writing.specs.Writing.{Headed, Wrote};
+    ghost use Rattle.table_writing.specs.Writing.{Fits, Headed, Wrote};
 
     pub fn new(buffer: &'a mut [u8]) -> Writer<'a>
         ensures start { result.at ≡ 0 }
@@ -30,7 +30,7 @@ impl<'a> Writer<'a> {
 
     // Writes bytes behind the others.
     pub fn put(&mut self, bytes: &[u8])
-        requires { self.old.at + length bytes.now ≤ length self.old.buffer.now }
+        requires { Fits bytes.now self.old }
         ensures { Wrote bytes.now self.old self.new }
     {
         let end = self.at + bytes.len();
