@@ -1,11 +1,12 @@
 -- The laws of sums.
-use Rattle.std.proofs.Common.{◌≡◌, ◌+◌, ◌*◌, ◌^◌, ◌<◌, ◌≤◌, List, [], ◌∷◌, length, ℤ, pos, ◌+ℤ◌, Some, sym, ap, ◌∙◌, arith, lit<, w64}
+use Rattle.std.proofs.Common.{◌≡◌, ℕ, suc, ◌+◌, ◌-◌, ◌*◌, ◌^◌, ◌<◌, ◌≤◌, ltb, List, [], ◌∷◌, length, ℤ, pos, negsuc, ◌+ℤ◌, Some, sym, ap, ◌∙◌, arith, lit<, w64}
 use mathlib.Core.HLevel.{is_prop→PathP}
 use native.Mathlib.Bridge.{le_prop}
-use lib.IntN.{+ℤ_assoc, +ℤ_idl, +ℤ_idr}
+use lib.IntN.{sub_ℕ, +ℤ_assoc, +ℤ_idl, +ℤ_idr}
 use lib.Signed.{mag}
 use Rattle.std.specs.Int.{int_wrap}
-use Rattle.std.proofs.lemmas.Int.{ints, int_wrap_fits, int_wrap-add_left, int_wrap-add_right}
+use Rattle.std.proofs.lemmas.Int.{int_wrap_fits, int_wrap-add_left, int_wrap-add_right}
+use Rattle.std.proofs.lemmas.Bool.{cond_both}
 use Rattle.aggregates.specs.Figures.{partial_of, figure_of}
 use Rattle.aggregates.specs.Folds.{Joins}
 use Rattle.aggregates.specs.Partials.{sums}
@@ -30,8 +31,14 @@ sum_wraps : (xs : List ℤ) → (partial_of sums xs).total ≡ int_wrap w64 (sum
 sum_wraps [] = sym (int_wrap_fits w64 (pos 0) (record { sfits = lit< tt }))
 sum_wraps (x ∷ xs) = ap (λ y. int_wrap w64 (int_wrap w64 x +ℤ y)) (sum_wraps xs) ∙ int_wrap-add_left w64 x (int_wrap w64 (sumZ xs)) ∙ int_wrap-add_right w64 x (sumZ xs)
 
+mag_sub : (m n : ℕ) → mag (sub_ℕ m n) ≤ m + n
+mag_sub m n = cond_both (ltb m n) (negsuc (n - suc m)) (pos (m - n)) (λ z. mag z ≤ m + n) (λ e. omega arith) (λ e. omega arith)
+
 mag_add : (x y : ℤ) → mag (x +ℤ y) ≤ mag x + mag y + 1
-mag_add x y = grind (arith, ints)
+mag_add (pos a) (pos b) = omega arith
+mag_add (pos a) (negsuc b) = omega (arith, mag_sub a (suc b))
+mag_add (negsuc a) (pos b) = omega (arith, mag_sub b (suc a))
+mag_add (negsuc a) (negsuc b) = omega arith
 
 sum_bound : (xs : List ℤ) → Small xs → mag (sumZ xs) ≤ length xs * 2 ^ 31
 sum_bound [] small = omega arith

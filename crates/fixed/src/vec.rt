@@ -25,7 +25,8 @@ impl fmt::Display for Full {
 
 impl Error for Full {}
 
-// The places behind the last value hold blanks, so that vectors of the same values are equal.
+// The places behind the last value hold blanks, so that vectors of the same values are equal. It is not the kit's
+// `ArrayVec`: that one is not `Copy`, as the tables are that are made of these.
 #[derive(Copy)]
 pub struct FixedVec<T: Blank, const N: usize> {
     items: [T; N],

@@ -23,6 +23,7 @@ impl Letter {
 
 // Bit i of the mask stands for input i, bit o of `active` for output o, and bit g of `lit` for trigger g.
 // A value is 0 where its output is not active.
+// Masks beside the values, and not options, are the form that the project asks for.
 #[derive(Clone, Copy, PartialEq, Eq, Debug)]
 pub struct Entry {
     pub letter: Letter,
