@@ -3,7 +3,8 @@ ghost use Rattle.std.specs.Prelude.{◌≡◌, ◌+◌, ◌≤◌, length};
 
 use tables::field::Tag;
 
-// The bytes before `at` are written.
+// The bytes before `at` are written. They stay in the buffer, and do not leave its front, since a header is put over its
+// place when its content is known.
 #[derive(Drop)]
 pub(crate) struct Writer<'a> {
     buffer: &'a mut [u8],
