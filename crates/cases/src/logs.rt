@@ -47,7 +47,8 @@ impl Log {
         let mut items = Vec::new(heap);
         let mut reader = LogReader::new(bytes);
         let mut place = Item::Marked(Mark { time: 0 });
-        // No `for` over an iterator of the items: its last answer would be none, and not the end.
+        // No `for` over an iterator of the items: its last answer would be none, and not the end. Nor a closure that is
+        // handed each item: it could fail where the source can't.
         let end = loop {
             if let Err(end) = reader.take(&mut place) {
                 break end;
@@ -83,6 +84,10 @@ pub fn agrees(heap: Global, case: &str) -> anyhow::Result<bool> {
     let Some((digits, wanted)) = case.split_once('\t') else {
         return Ok(false);
     };
+    // A case has small digits only; `decode` would take capital ones too.
+    if digits.as_bytes().iter().any(|digit| digit.is_ascii_uppercase()) {
+        return Ok(false);
+    }
     let bytes = match hex::decode(heap, digits) {
         Ok(bytes) => bytes,
         Err(e @ FromHexError::OutOfMemory) => return Err(e.into()),

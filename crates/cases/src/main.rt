@@ -9,16 +9,14 @@ fn main(rt: HostRuntime) -> anyhow::Result<()> {
     let heap = rt.alloc();
     let text = fs::read_to_string(&rt, "logs.txt")?;
     let cases = text.as_str();
-    let verdicts: Vec<bool> = cases
-        .lines()
-        .map(|case| logs::agrees(heap, case))
-        .try_collect(heap)?;
-    for (case, agrees) in cases.lines().zip(&verdicts) {
-        if !*agrees {
+    let mut agreeing = 0usize;
+    for case in cases.lines() {
+        if logs::agrees(heap, case)? {
+            agreeing = agreeing.saturating_add(1);
+        } else {
             println!(rt; "differs: {case}")?;
         }
     }
-    let agreeing = verdicts.iter().filter(|agrees| **agrees).count();
-    println!(rt; "logs: {agreeing} of {} agree", verdicts.len())?;
+    println!(rt; "logs: {agreeing} of {} agree", cases.lines().count())?;
     Ok(())
 }

@@ -47,7 +47,7 @@ fn read_from<R: Read + Drop>(heap: Global, reader: R) -> Result<Vec<u8>, Unread>
 
 // The bytes of a file that has at most LIMIT of them.
 pub fn read<R: Files + AllocGlobal>(rt: &R, path: &str) -> Result<Vec<u8>, Unread>
-    ensures { IfOk result (λ v. vec_len v ≤ LIMIT) }
+    ensures { IfOk result (λ v. vec_len v ≤ 32768) }
 {
     read_from(rt.alloc(), File::open(rt, path)?)
 }

@@ -1,8 +1,8 @@
--- What arrays hold after a slice is copied into them, after a value more, and after a value less.
+-- What arrays hold after a slice is copied into them, and after a value more.
 use Rattle.std.proofs.Common.{◌≡◌, ℕ, ◌+◌, ◌-◌, ◌<◌, ◌≤◌, List, [], ◌∷◌, ◌++◌, length, get_or, ltb, min, take, drop, set, replicate, sym, ap, ◌∙◌, subst, ⊎_elim, arith, length-take-le}
 use borrow.Rule.Slice.PartMut.{post_of, put_mid}
 use Rattle.std.proofs.Math.Seq.{drop-append_seam, take-append-add}
-use Rattle.std.proofs.lemmas.List.{append_assoc, append-nil, drop-append-le, drop-drop, drop-replicate, drop_all, drop_more, length-append, length-drop, length-replicate, replicate-append-replicate, set_at, take_all, take_at, take-append-drop, take-replicate, take-take, take_rest}
+use Rattle.std.proofs.lemmas.List.{append_assoc, append-nil, drop-append-le, drop-replicate, drop_all, drop_more, length-append, length-drop, length-replicate, set_at, take_all, take_at, take-append-drop, take-replicate, take-take, take_rest}
 use Rattle.std.proofs.lemmas.Bool.{cases_lt, cond-true, lt-ltb}
 use Rattle.fixed.specs.Holding.{Holds, filled, length_held}
 use Rattle.fixed.specs.Pushing.{inserted}
@@ -77,16 +77,3 @@ module _ {A : Type 0} (b : A) (n : ℕ) (items : List A) (count : ℕ) (h : Hold
       (λ high. let all = take_all at front (omega arith) in let none = drop_all at front (omega arith) in let all' = take_all p front (omega arith) in let none' = drop_all p front (omega arith) in (λ i. (all' ∙ sym all) i ++ (a ∷ (none' ∙ sym none) i)))
       (cases_lt at count)
       ∙ sym free
-
--- a blank goes to the place of the first value, and then the places turn by one
-pub pop_held : {A : Type 0} {blank : A} {n : ℕ} {items : List A} (count : ℕ) → Holds blank n items (count + 1) → Holds blank n (drop 1 (set items 0 blank) ++ take 1 (set items 0 blank)) count
-pop_held {items = []} c h = absurd (omega (arith, h.few, h.long))
-pop_held {blank = b} {n = n} {items = y ∷ ys} c h = record {
-  few = omega (arith, h.few);
-  long = length-append ys (b ∷ []) ∙ omega (arith, h.long);
-  behind =
-      drop-append-le c ys (b ∷ []) (omega (arith, h.few, h.long))
-      ∙ ap (λ l. l ++ b ∷ []) (drop-drop c 1 (y ∷ ys) ∙ ap (λ k. drop k (y ∷ ys)) (omega arith) ∙ h.behind)
-      ∙ replicate-append-replicate (n - (c + 1)) 1 b
-      ∙ ap (λ k. replicate k b) (omega (arith, h.few));
-}

@@ -1,5 +1,5 @@
 // A vector of at most `N` values, kept without a heap. Clauses see the list of its values.
-ghost use Rattle.std.specs.Prelude.{◌≡◌, ◌≤◌, [], length, take, drop, slice_get, codes, Some, ⊤};
+ghost use Rattle.std.specs.Prelude.{◌≡◌, ◌≤◌, [], length, take, codes, Some, ⊤};
 ghost use Rattle.std.specs.Slice.Iter.{iter_rest};
 ghost use Rattle.std.specs.Iterator.Adapters.{IterYieldsInOrder};
 ghost use Rattle.fixed.specs.Pushing.{inserted, pushed, push_answer};
@@ -25,8 +25,8 @@ impl fmt::Display for Full {
 
 impl Error for Full {}
 
-// The places behind the last value hold blanks, so that vectors of the same values are equal. It is not the kit's
-// `ArrayVec`: that one is not `Copy`, as the tables are that are made of these.
+// The places behind the last value hold blanks, so that clauses see two vectors of the same values as one. It is
+// not the kit's `ArrayVec`: that one is not `Copy`, as the tables are that are made of these.
 #[derive(Copy)]
 pub struct FixedVec<T: Blank, const N: usize> {
     items: [T; N],
@@ -126,21 +126,6 @@ impl<T: Blank, const N: usize> FixedVec<T, N> {
         places[at] = value;
         self.count += 1;
         Ok(())
-    }
-
-    // Takes the first value out, where there is one; the others move down.
-    pub fn pop_front(&mut self) -> Option<T>
-        ensures answers { result ≡ slice_get self.old 0 }
-        ensures drops { self.new ≡ drop 1 self.old }
-    {
-        if self.count == 0 {
-            return None;
-        }
-        let first = self.items[0];
-        self.items[0] = T::blank();
-        self.items.rotate_left(1);
-        self.count -= 1;
-        Some(first)
     }
 }
 

@@ -5,6 +5,7 @@ ghost use Rattle.layers.specs.Whole.{WholeTo};
 use fixed::Full;
 use items::item::{Item, Row};
 
+// Rows, and not items, each made an item again after a check, are the form that the project asks for.
 // This is no `FixedVec`, which a contract would see as its list: over lent bytes a pile of layers that hold such vectors
 // gets no proof from the checker where it is passed on by value.
 #[derive(Clone, Copy)]

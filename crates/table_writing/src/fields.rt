@@ -37,7 +37,7 @@ impl Content for Life {
     }
 
     fn put(&self, out: &mut Writer) {
-        out.put(&self.0.to_le_bytes());
+        out.put_word(self.0);
     }
 }
 
@@ -68,7 +68,7 @@ impl Content for Output {
 
     fn put(&self, out: &mut Writer) {
         if let Pace::Every(period) = self.pace {
-            out.put(&period.to_le_bytes());
+            out.put_word(period);
         }
         out.put(&[self.name.len() as u8]);
         out.put(self.name.as_slice());

@@ -33,7 +33,7 @@ fn put_operands(out: &mut Writer, op: Op)
     ensures { Wrote (drop 1 (op_bytes op)) out.old out.new }
 {
     match op {
-        Op::Number(value) => out.put(&value.to_le_bytes()),
+        Op::Number(value) => out.put_signed(value),
         Op::Now { stream } => out.put(&[stream]),
         Op::Past {
             stream,
@@ -41,11 +41,11 @@ fn put_operands(out: &mut Writer, op: Op)
             default,
         } => {
             out.put(&[stream, back]);
-            out.put(&default.to_le_bytes());
+            out.put_signed(default);
         }
         Op::Held { stream, default } => {
             out.put(&[stream]);
-            out.put(&default.to_le_bytes());
+            out.put_signed(default);
         }
         Op::Window {
             stream,
@@ -54,8 +54,8 @@ fn put_operands(out: &mut Writer, op: Op)
             default,
         } => {
             out.put(&[stream, kind.number()]);
-            out.put(&duration.to_le_bytes());
-            out.put(&default.to_le_bytes());
+            out.put_word(duration);
+            out.put_signed(default);
         }
         _ => {}
     }

@@ -161,8 +161,8 @@ fn name(bytes: &[u8]) -> Result<(&[u8], &[u8]), Flaw>
     rest.split_at_checked(size).ok_or(Flaw::Extent)
 }
 
-// An output after its period. The number of windows goes beside the bytes: a struct of both would have to be made where
-// a field is read, and be taken apart where an operation is, and so be no plainer.
+// An output after its period. The number of windows goes beside the bytes, here and down to where an operation is read:
+// a struct of both would be made at the top, and be taken apart there, and so be no plainer.
 fn output(pace: Pace, bytes: &[u8], windows: u8) -> Result<Field<'_>, Flaw>
     ensures { fields.said result ≡ reading.outputs pace windows bytes.now }
 {
