@@ -44,8 +44,7 @@ fn has_panes(period: u32, duration: u32) -> bool
     if period == 0 {
         return false;
     }
-    let panes = duration / period;
-    duration % period == 0 && (1..=16).contains(&panes)
+    duration.is_multiple_of(period) && (1..=16).contains(&(duration / period))
 }
 
 impl Parts {
@@ -101,7 +100,12 @@ impl Parts {
     fn all_may(&self, me: usize, output: &Output) -> bool
         ensures { result ≡ rules.all (rules.may (views.said self.now) me output.now.pace) (listed output.now.program) }
     {
-        output.program.ops.as_slice().iter().all(|op| self.may(me, output.pace, *op))
+        output
+            .program
+            .ops
+            .as_slice()
+            .iter()
+            .all(|op| self.may(me, output.pace, *op))
     }
 
     // Whether the output that is stream `me` keeps the rules.
