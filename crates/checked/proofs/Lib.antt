@@ -1,3 +1,4 @@
+pub mod Chains
 pub mod Deeper
 pub mod Fielding
 pub mod Gathers

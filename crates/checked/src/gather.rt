@@ -28,11 +28,7 @@ fn program_in(operations: &[u8]) -> Program
 fn windows_in(program: &Program) -> u8
     ensures { result ≡ windows_of (listed program.now) }
 {
-    let mut windows = 0;
-    for op in &program.ops {
-        windows += op.windows();
-    }
-    windows
+    program.ops.as_slice().iter().map(|op| op.windows()).sum()
 }
 
 impl Gathered {

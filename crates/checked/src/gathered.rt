@@ -5,7 +5,9 @@ use crate::parts::Parts;
 use fixed::FixedVec;
 
 // The parts so far, how many lives and windows stood, and the first bytes of the fields of outputs and triggers. The
-// places stand beside the parts, and not in them, since the parts go on without them.
+// places stand beside the parts, and not in them, since the parts go on without them. How many lives stood is a count,
+// as of the other kinds of fields, by which their order is judged, and no Option of the life: that one goes into the
+// parts at once, as the table keeps it.
 #[derive(Clone, Copy)]
 pub struct Gathered {
     pub parts: Parts,

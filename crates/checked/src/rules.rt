@@ -13,7 +13,7 @@ use tables::op::{Op, Pace, Program};
 fn divides(p: u32, n: u32) -> bool
     ensures { result ≡ rules.divides p n }
 {
-    if p == 0 { n == 0 } else { n % p == 0 }
+    n.is_multiple_of(p)
 }
 
 // Whether an output of the first pace may use now and past on a stream of the second.
@@ -44,8 +44,7 @@ fn has_panes(period: u32, duration: u32) -> bool
     if period == 0 {
         return false;
     }
-    let panes = duration / period;
-    duration % period == 0 && panes >= 1 && panes <= 16
+    duration.is_multiple_of(period) && (1..=16).contains(&(duration / period))
 }
 
 impl Parts {
@@ -101,12 +100,12 @@ impl Parts {
     fn all_may(&self, me: usize, output: &Output) -> bool
         ensures { result ≡ rules.all (rules.may (views.said self.now) me output.now.pace) (listed output.now.program) }
     {
-        for op in &output.program.ops {
-            if !self.may(me, output.pace, *op) {
-                return false;
-            }
-        }
-        true
+        output
+            .program
+            .ops
+            .as_slice()
+            .iter()
+            .all(|op| self.may(me, output.pace, *op))
     }
 
     // Whether the output that is stream `me` keeps the rules.
@@ -138,12 +137,7 @@ fn meets_other(me: usize, op: Op) -> bool
 fn any_meets_other(me: usize, program: &Program) -> bool
     ensures { result ≡ rules.any (rules.meets_other me) (listed program.now) }
 {
-    for op in &program.ops {
-        if meets_other(me, *op) {
-            return true;
-        }
-    }
-    false
+    program.ops.as_slice().iter().any(|op| meets_other(me, *op))
 }
 
 // Whether an output is driven by another stream, where it is event-based.
