@@ -85,7 +85,11 @@ pub fn agrees(heap: Global, case: &str) -> anyhow::Result<bool> {
         return Ok(false);
     };
     // A case has small digits only; `decode` would take capital ones too.
-    if digits.as_bytes().iter().any(|digit| digit.is_ascii_uppercase()) {
+    if digits
+        .as_bytes()
+        .iter()
+        .any(|digit| digit.is_ascii_uppercase())
+    {
         return Ok(false);
     }
     let bytes = match hex::decode(heap, digits) {
