@@ -2,7 +2,7 @@
 ghost use Rattle.std.specs.Prelude.{◌≡◌, IfOk};
 ghost use Rattle.sources.specs.Logs.{log};
 
-use hex::FromHexError;
+use crate::digits;
 use items::cause::{End, Fault};
 use items::item::{Item, Mark};
 use items::source::Source;
@@ -84,18 +84,8 @@ pub fn agrees(heap: Global, case: &str) -> anyhow::Result<bool> {
     let Some((digits, wanted)) = case.split_once('\t') else {
         return Ok(false);
     };
-    // A case has small digits only; `decode` would take capital ones too.
-    if digits
-        .as_bytes()
-        .iter()
-        .any(|digit| digit.is_ascii_uppercase())
-    {
+    let Some(bytes) = digits::bytes(heap, digits)? else {
         return Ok(false);
-    }
-    let bytes = match hex::decode(heap, digits) {
-        Ok(bytes) => bytes,
-        Err(e @ FromHexError::OutOfMemory) => return Err(e.into()),
-        Err(_) => return Ok(false),
     };
     let bytes = bytes.as_slice();
     let log = Log::read(heap, bytes)?;

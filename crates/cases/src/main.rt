@@ -1,22 +1,37 @@
 // Runs cases that were made apart from this code, and prints how many agree.
 #![tactic(auto)]
 
+mod digits;
 mod logs;
+mod tables;
 
+use std::alloc::Global;
 use std::fs;
 
-fn main(rt: HostRuntime) -> anyhow::Result<()> {
-    let heap = rt.alloc();
-    let text = fs::read_to_string(&rt, "logs.txt")?;
+// Runs the cases of a file, one in each line.
+fn run<F: Fn(Global, &str) -> anyhow::Result<bool>>(
+    rt: &HostRuntime,
+    name: &str,
+    file: &str,
+    agrees: F,
+) -> anyhow::Result<()>
+    requires { F.IsAlwaysCallable agrees }
+{
+    let text = fs::read_to_string(rt, file)?;
     let cases = text.as_str();
     let mut agreeing = 0usize;
     for case in cases.lines() {
-        if logs::agrees(heap, case)? {
+        if agrees(rt.alloc(), case)? {
             agreeing = agreeing.saturating_add(1);
         } else {
             println!(rt; "differs: {case}")?;
         }
     }
-    println!(rt; "logs: {agreeing} of {} agree", cases.lines().count())?;
+    println!(rt; "{name}: {agreeing} of {} agree", cases.lines().count())?;
     Ok(())
+}
+
+fn main(rt: HostRuntime) -> anyhow::Result<()> {
+    run(&rt, "logs", "logs.txt", logs::agrees)?;
+    run(&rt, "tables", "tables.txt", tables::agrees)
 }
