@@ -3,7 +3,7 @@
 
 mod digits;
 mod logs;
-mod tables;
+mod table_cases;
 
 use std::alloc::Global;
 use std::fs;
@@ -33,5 +33,5 @@ fn run<F: Fn(Global, &str) -> anyhow::Result<bool>>(
 
 fn main(rt: HostRuntime) -> anyhow::Result<()> {
     run(&rt, "logs", "logs.txt", logs::agrees)?;
-    run(&rt, "tables", "tables.txt", tables::agrees)
+    run(&rt, "tables", "tables.txt", table_cases::agrees)
 }
