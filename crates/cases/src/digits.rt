@@ -1,6 +1,6 @@
 // Bytes that a case writes in hexadecimal.
 use hex::FromHexError;
-use std::alloc::Global;
+use std::alloc::{AllocError, Global};
 
 // The bytes; none where the text is no pairs of small digits.
 pub fn bytes(heap: Global, digits: &str) -> anyhow::Result<Option<Vec<u8>>> {
@@ -14,7 +14,7 @@ pub fn bytes(heap: Global, digits: &str) -> anyhow::Result<Option<Vec<u8>>> {
     }
     match hex::decode(heap, digits) {
         Ok(bytes) => Ok(Some(bytes)),
-        Err(e @ FromHexError::OutOfMemory) => Err(e.into()),
+        Err(FromHexError::OutOfMemory) => Err(AllocError.into()),
         Err(_) => Ok(None),
     }
 }

@@ -1,5 +1,5 @@
 // Cases of logs: the bytes in hex, a tab, and the items and the end that they mean.
-ghost use Rattle.std.specs.Prelude.{◌≡◌, IfOk};
+ghost use Rattle.std.specs.Prelude.{◌≡◌, length, IfOk};
 ghost use Rattle.sources.specs.Logs.{log};
 
 use crate::digits;
@@ -31,20 +31,36 @@ impl fmt::Display for Told {
     }
 }
 
-// The items of a log, and its end.
+// The end of a log as the cases write it.
+#[derive(Clone, Copy)]
+struct ToldEnd(End);
+
+impl fmt::Display for ToldEnd {
+    fn fmt<W: fmt::Write>(&self, f: &mut fmt::Formatter<W>) -> fmt::Result {
+        match self.0 {
+            End::Dry => write!(f, "dry"),
+            End::Broken(fault) => write!(f, "fault {} {}", fault.cause.number(), fault.place),
+        }
+    }
+}
+
+// What was read of a log: its text as the cases write it, how many items it has, and its end. The items themselves are
+// not kept, since they take more room than their text.
 #[derive(Drop)]
 struct Log {
-    items: Vec<Item>,
+    text: String,
+    items: usize,
     end: End,
 }
 
 impl Log {
     // Takes all items of a log.
     fn read(heap: Global, bytes: &[u8]) -> Result<Log, AllocError>
-        ensures items { IfOk result (λ l. l.items.items ≡ (log bytes.now).waits) }
+        ensures items { IfOk result (λ l. l.items ≡ length (log bytes.now).waits) }
         ensures end { IfOk result (λ l. l.end ≡ (log bytes.now).end) }
     {
-        let mut items = Vec::new(heap);
+        let mut text = String::new(heap);
+        let mut items = 0;
         let mut reader = LogReader::new(bytes);
         let mut place = Item::Marked(Mark { time: 0 });
         // No `for` over an iterator of the items: its last answer would be none, and not the end. Nor a closure that is
@@ -53,28 +69,18 @@ impl Log {
             if let Err(end) = reader.take(&mut place) {
                 break end;
             }
-            items.push(place)?;
+            write!(text, "{}; ", Told(place))?;
+            items += 1;
         };
-        Ok(Log { items, end })
+        write!(text, "{}", ToldEnd(end))?;
+        Ok(Log { text, items, end })
     }
 
     // What a check of the log has to answer.
     fn checked(&self) -> Result<usize, Fault> {
         match self.end {
-            End::Dry => Ok(self.items.len()),
+            End::Dry => Ok(self.items),
             End::Broken(fault) => Err(fault),
-        }
-    }
-}
-
-impl fmt::Display for Log {
-    fn fmt<W: fmt::Write>(&self, f: &mut fmt::Formatter<W>) -> fmt::Result {
-        for item in &self.items {
-            write!(f, "{}; ", Told(*item))?;
-        }
-        match self.end {
-            End::Dry => write!(f, "dry"),
-            End::Broken(fault) => write!(f, "fault {} {}", fault.cause.number(), fault.place),
         }
     }
 }
@@ -89,5 +95,5 @@ pub fn agrees(heap: Global, case: &str) -> anyhow::Result<bool> {
     };
     let bytes = bytes.as_slice();
     let log = Log::read(heap, bytes)?;
-    Ok(log.to_string(heap)?.as_str() == wanted && check(bytes) == log.checked())
+    Ok(log.text.as_str() == wanted && check(bytes) == log.checked())
 }

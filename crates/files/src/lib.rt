@@ -34,7 +34,11 @@ fn read_from<R: Read + Drop>(heap: Global, reader: R) -> Result<Vec<u8>, Unread>
     ensures whole { IfOk result (λ v. IfSome (R.remaining reader) (λ bytes. v.items ≡ bytes)) }
     ensures long { IsErrOf result Unread.TooLarge → IfSome (R.remaining reader) (λ bytes. LIMIT < length bytes) }
 {
-    let mut bytes = Vec::new(heap);
+    // There is room for all of it before the first read: what keeps each write apart, as some pipes do, loses the end of
+    // one that is longer than the room offered.
+    let mut bytes = Vec::with_capacity(heap, LIMIT + 1)
+        .map_err(io::Error::from)
+        .map_err(Unread::Failed)?;
     reader
         .take(LIMIT as u64 + 1)
         .read_to_end(&mut bytes)

@@ -1,8 +1,8 @@
 -- What arrays hold after a slice is copied into them, and after a value more.
-use Rattle.std.proofs.Common.{◌≡◌, ℕ, ◌+◌, ◌-◌, ◌<◌, ◌≤◌, List, [], ◌∷◌, ◌++◌, length, get_or, ltb, min, take, drop, set, replicate, sym, ap, ◌∙◌, subst, ⊎_elim, arith, length-take-le}
+use Rattle.std.proofs.Common.{◌≡◌, ℕ, ◌+◌, ◌-◌, ◌<◌, ◌≤◌, List, [], ◌∷◌, ◌++◌, length, ltb, min, take, drop, set, replicate, sym, ap, ap₂, ◌∙◌, subst, ⊎_elim, arith, length-take-le}
 use borrow.Rule.Slice.PartMut.{post_of, put_mid}
-use Rattle.std.proofs.Math.Seq.{drop-append_seam, take-append-add}
-use Rattle.std.proofs.lemmas.List.{append_assoc, append-nil, drop-append-le, drop-replicate, drop_all, drop_more, length-append, length-drop, length-replicate, set_at, take_all, take_at, take-append-drop, take-replicate, take-take, take_rest}
+use Rattle.std.proofs.Math.Seq.{drop-append_seam, take-append_seam}
+use Rattle.std.proofs.lemmas.List.{append_assoc, drop-append-le, drop-drop, drop-replicate, drop-set-lt, drop-take, drop_all, length-append, length-drop, length-replicate, length-set, take_all, take_at, take-append-le, take-take}
 use Rattle.std.proofs.lemmas.Bool.{cases_lt, cond-true, lt-ltb}
 use Rattle.fixed.specs.Holding.{Holds, filled, length_held}
 use Rattle.fixed.specs.Pushing.{inserted}
@@ -22,58 +22,64 @@ pub filled_holds : {A : Type 0} (b : A) (n : ℕ) (xs : List A) (count : ℕ) �
 filled_holds b n xs count long few =
     subst (λ k. Holds b n (xs ++ k) count) (drop-replicate count n b ∙ ap (λ k. replicate (n - k) b) (sym long)) (start_held b n xs count long few)
 
-module _ {A : Type 0} (b : A) (n : ℕ) (items : List A) (count : ℕ) (h : Holds b n items count) (room : count < n) (p : ℕ) (inside : p ≤ count) (a : A) where
-  abbrev front : List A
-  front = take count items
+-- the first blank behind the values gives way to a value
+pub push_held : {A : Type 0} (b : A) (n : ℕ) (items : List A) (count : ℕ) → Holds b n items count → count < n → (a : A) → Holds b n (set items count a) (count + 1)
+push_held b n items count h room a =
+    record {
+      few = omega (arith, room);
+      long = length-set items count a ∙ h.long;
+      behind =
+          drop-set-lt (count + 1) items count a (omega arith)
+          ∙ sym (drop-drop 1 count items)
+          ∙ ap (drop 1) h.behind
+          ∙ drop-replicate 1 (n - count) b
+          ∙ ap (λ k. replicate k b) (omega arith);
+    }
 
+-- a value that stands behind the others in an array is turned to a place among them
+module _ {A : Type 0} (b : A) (n : ℕ) (items : List A) (count : ℕ) (h : Holds b n items count) (xs : List A) (a : A) (seen : take count items ≡ xs ++ (a ∷ [])) (p : ℕ) (inside : p ≤ length xs) where
   abbrev moved : List A
-  moved = take (length items - p) (drop p items)
+  moved = take (count - p) (drop p items)
 
-  pub length_with : length (take p front ++ (a ∷ drop p front)) ≡ count + 1
+  more : count ≡ length xs + 1
+  more = sym (length_held h) ∙ ap length seen ∙ length-append xs (a ∷ [])
+
+  pub length_with : length (take p xs ++ (a ∷ drop p xs)) ≡ count
   length_with =
-      let held = length_held h in
-      let before = length-take-le p front (omega arith) in
-      let after = length-drop p front in
-      omega (arith, length-append (take p front) (a ∷ drop p front))
+      let before = length-take-le p xs inside in
+      let after = length-drop p xs in
+      omega (arith, length-append (take p xs) (a ∷ drop p xs), more)
 
-  -- the places behind it turn by one, the last of which held a blank
-  behind_it : take (n - 1 - p) (drop p items) ≡ drop p front ++ replicate (n - (count + 1)) b
-  behind_it =
-      let held = length_held h in
-      let left = length-drop p front in
-      ap (λ l. take (n - 1 - p) (drop p l)) (sym (take-append-drop count items) ∙ ap (λ l. front ++ l) h.behind)
-      ∙ ap (take (n - 1 - p)) (drop-append-le p front (replicate (n - count) b) (omega arith))
-      ∙ ap (λ k. take k (drop p front ++ replicate (n - count) b)) (omega arith)
-      ∙ take-append-add (drop p front) (replicate (n - count) b) (n - (count + 1))
-      ∙ ap (λ l. drop p front ++ l) (take-replicate (n - (count + 1)) (n - count) b (omega arith))
+  moved_is : moved ≡ drop p xs ++ (a ∷ [])
+  moved_is =
+      sym (drop-take p (count - p) items)
+      ∙ ap (λ k. drop p (take k items)) (omega (arith, more))
+      ∙ ap (drop p) seen
+      ∙ drop-append-le p xs (a ∷ []) inside
 
-  pub insert_held : (turned : List A) → turned ≡ drop (length moved - 1) moved ++ take (length moved - 1) moved → set (put_mid p (length items - p) items turned) p a ≡ filled b n (take p front ++ (a ∷ drop p front))
+  before_it : take p items ≡ take p xs
+  before_it = sym (take-take p count items (omega (arith, more))) ∙ ap (take p) seen ∙ take-append-le p xs (a ∷ []) inside
+
+  pub insert_held : (turned : List A) → turned ≡ drop (length moved - 1) moved ++ take (length moved - 1) moved → put_mid p (count - p) items turned ≡ filled b n (take p xs ++ (a ∷ drop p xs))
   insert_held turned is =
-      let long = h.long in
-      let left = length-drop p items in
-      let all : moved ≡ drop p items = take_rest items p in
-      let size : length moved - 1 ≡ n - 1 - p = omega (arith, ap length all) in
-      let none : drop (n - 1 - p + 1) (drop p items) ≡ [] = drop_all (n - 1 - p + 1) (drop p items) (omega arith) in
-      let last : drop (n - 1 - p) (drop p items) ≡ get_or (drop p items) (n - 1 - p) a ∷ [] = drop_more (drop p items) (n - 1 - p) a (omega arith) ∙ ap (λ l. get_or (drop p items) (n - 1 - p) a ∷ l) none in
-      let turn : turned ≡ get_or (drop p items) (n - 1 - p) a ∷ take (n - 1 - p) (drop p items) = is ∙ (λ i. drop (size i) (all i) ++ take (size i) (all i)) ∙ ap (λ l. l ++ take (n - 1 - p) (drop p items)) last in
-      let end : post_of p (length items - p) items ≡ [] = drop_all (length items - p) (drop p items) (omega arith) in
-      let before : take p items ≡ take p front = sym (take-take p count items inside) in
-      (λ i. set (take p items ++ (turn i ++ end i)) p a)
-      ∙ ap (λ l. set (take p items ++ (get_or (drop p items) (n - 1 - p) a ∷ l)) p a) (append-nil (take (n - 1 - p) (drop p items)))
-      ∙ set_at (take p items) (get_or (drop p items) (n - 1 - p) a) (take (n - 1 - p) (drop p items)) a p (length-take-le p items (omega (arith, h.few)))
-      ∙ (λ i. before i ++ (a ∷ behind_it i))
-      ∙ sym (append_assoc (take p front) (a ∷ drop p front) (replicate (n - (count + 1)) b))
-      ∙ ap (λ k. (take p front ++ (a ∷ drop p front)) ++ replicate (n - k) b) (sym length_with)
+      let size : length moved - 1 ≡ length (drop p xs) = ap (λ l. length l - 1) moved_is ∙ ap (λ k. k - 1) (length-append (drop p xs) (a ∷ [])) ∙ omega arith in
+      let turn : turned ≡ a ∷ drop p xs =
+      is
+      ∙ (λ i. drop (size i) (moved_is i) ++ take (size i) (moved_is i))
+      ∙ ap₂ (λ l r. l ++ r) (drop-append_seam (drop p xs) (a ∷ [])) (take-append_seam (drop p xs) (a ∷ [])) in
+      let end : post_of p (count - p) items ≡ replicate (n - count) b = drop-drop (count - p) p items ∙ ap (λ k. drop k items) (omega (arith, more)) ∙ h.behind in
+      (λ i. before_it i ++ (turn i ++ end i))
+      ∙ sym (append_assoc (take p xs) (a ∷ drop p xs) (replicate (n - count) b))
+      ∙ ap (λ k. (take p xs ++ (a ∷ drop p xs)) ++ replicate (n - k) b) (sym length_with)
 
   -- the values then
-  pub insert_seen : (at : ℕ) → p ≡ min at count → take (count + 1) (filled b n (take p front ++ (a ∷ drop p front))) ≡ inserted n at a front
+  pub insert_seen : (at : ℕ) → p ≡ min at (length xs) → take count (filled b n (take p xs ++ (a ∷ drop p xs))) ≡ inserted n at a xs
   insert_seen at is =
-      let held = length_held h in
-      let seen : take (count + 1) (filled b n (take p front ++ (a ∷ drop p front))) ≡ take p front ++ (a ∷ drop p front) = take_at _ _ (count + 1) length_with in
-      let free = cond-true (ltb (length front) n) (take at front ++ (a ∷ drop at front)) front (lt-ltb _ _ (omega arith)) in
-      seen
+      let all = take_at (take p xs ++ (a ∷ drop p xs)) (replicate (n - length (take p xs ++ (a ∷ drop p xs))) b) count length_with in
+      let free = cond-true (ltb (length xs) n) (take at xs ++ (a ∷ drop at xs)) xs (lt-ltb _ _ (omega (arith, more, h.few))) in
+      all
       ∙ ⊎_elim
-      (λ low. ap (λ k. take k front ++ (a ∷ drop k front)) (omega arith))
-      (λ high. let all = take_all at front (omega arith) in let none = drop_all at front (omega arith) in let all' = take_all p front (omega arith) in let none' = drop_all p front (omega arith) in (λ i. (all' ∙ sym all) i ++ (a ∷ (none' ∙ sym none) i)))
-      (cases_lt at count)
+      (λ low. ap (λ k. take k xs ++ (a ∷ drop k xs)) (omega (arith, is)))
+      (λ high. let all = take_all at xs (omega arith) in let none = drop_all at xs (omega arith) in let all' = take_all p xs (omega (arith, is)) in let none' = drop_all p xs (omega (arith, is)) in (λ i. (all' ∙ sym all) i ++ (a ∷ (none' ∙ sym none) i)))
+      (cases_lt at (length xs))
       ∙ sym free

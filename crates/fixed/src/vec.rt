@@ -108,7 +108,12 @@ impl<T: Blank, const N: usize> FixedVec<T, N> {
         ensures answers { result ≡ push_answer N self.old }
         ensures pushes { self.new ≡ pushed N value self.old }
     {
-        self.insert(self.len(), value)
+        if self.count == N {
+            return Err(Full);
+        }
+        self.items[self.count] = value;
+        self.count += 1;
+        Ok(())
     }
 
     // Puts a value at a place, before those that stand from there on; refused where no place is free. Past the last
@@ -117,14 +122,10 @@ impl<T: Blank, const N: usize> FixedVec<T, N> {
         ensures answers { result ≡ push_answer N self.old }
         ensures inserts { self.new ≡ inserted N at value self.old }
     {
-        if self.count == N {
-            return Err(Full);
-        }
         let at = at.min(self.count);
+        self.push(value)?;
         let places = &mut self.items[..];
-        places[at..].rotate_right(1);
-        places[at] = value;
-        self.count += 1;
+        places[at..self.count].rotate_right(1);
         Ok(())
     }
 }
