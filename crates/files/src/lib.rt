@@ -23,6 +23,11 @@ pub enum Unread {
 
 // By hand: `#[from]` would want a case of its own for it.
 impl From<AllocError> for Unread {
+    ghost use Rattle.std.specs.Prelude.{◌≢◌};
+    ghost use Rattle.files.specs.declared.Unread.TheVariants.{TooLarge};
+
+    ghost from_gives = { λ _ unread. unread ≢ TooLarge };
+
     fn from(e: AllocError) -> Unread {
         Unread::Failed(io::Error::from(e))
     }
@@ -36,9 +41,7 @@ fn read_from<R: Read + Drop>(heap: Global, reader: R) -> Result<Vec<u8>, Unread>
 {
     // There is room for all of it before the first read: what keeps each write apart, as some pipes do, loses the end of
     // one that is longer than the room offered.
-    let mut bytes = Vec::with_capacity(heap, LIMIT + 1)
-        .map_err(io::Error::from)
-        .map_err(Unread::Failed)?;
+    let mut bytes = Vec::with_capacity(heap, LIMIT + 1)?;
     reader
         .take(LIMIT as u64 + 1)
         .read_to_end(&mut bytes)
