@@ -1,5 +1,6 @@
 -- A table in the making: the fields so far, added one behind another.
 use Rattle.std.specs.Prelude.{◌≡◌, ℕ, ◌+◌, ◌<◌, ◌≤◌, List, [], ◌∷◌, ◌++◌, length, drop, Ok, Err, Result}
+use Rattle.fixed.specs.Values.{values}
 use Rattle.frames.specs.Frames.{announced, first}
 use Rattle.tables.specs.declared.flaw.Refused.{Refused}
 use Rattle.tables.specs.Flaws.{number}
@@ -74,8 +75,8 @@ making g = record {
   table = said g.parts;
   lives = g.lives;
   windows = g.windows;
-  outputs_at = g.output_places;
-  triggers_at = g.trigger_places;
+  outputs_at = values g.output_places;
+  triggers_at = values g.trigger_places;
 }
 
 -- a refusal by its number

@@ -1,5 +1,6 @@
 // A table in the making.
 ghost use Rattle.std.specs.Prelude.{◌≡◌, ◌≤◌, length};
+ghost use Rattle.fixed.specs.Values.{values};
 
 use crate::parts::Parts;
 use fixed::FixedVec;
@@ -17,6 +18,6 @@ pub struct Gathered {
     pub trigger_places: FixedVec<usize, 8>,
     ghost once: { lives ≤ 1 },
     ghost few: { windows ≤ 8 },
-    ghost outputs_placed: { length output_places ≡ length parts.outputs },
-    ghost triggers_placed: { length trigger_places ≡ length parts.triggers },
+    ghost outputs_placed: { length (values output_places) ≡ length (values parts.outputs) },
+    ghost triggers_placed: { length (values trigger_places) ≡ length (values parts.triggers) },
 }

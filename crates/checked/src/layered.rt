@@ -1,5 +1,6 @@
 // A table whose reads go in no circle.
 ghost use Rattle.std.specs.Prelude.{◌≡◌};
+ghost use Rattle.fixed.specs.Values.{values};
 ghost use Rattle.checked.specs.Planning.{layers_of};
 ghost use Rattle.checked.specs.Views.{said};
 
@@ -11,5 +12,5 @@ use fixed::FixedVec;
 pub(crate) struct Layered<'a> {
     pub parts: &'a Parts,
     pub layers: FixedVec<u8, 16>,
-    ghost known: { layers ≡ layers_of (said parts.now) },
+    ghost known: { values layers ≡ layers_of (said parts.now) },
 }

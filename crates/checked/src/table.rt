@@ -2,7 +2,7 @@
 ghost use Rattle.std.specs.Prelude.{◌≡◌, true, length};
 ghost use Rattle.tables.specs.Sound.{sound};
 ghost use Rattle.tables.specs.Tables.{write};
-ghost use Rattle.checked.specs.Planning.{plan_of};
+ghost use Rattle.checked.specs.Planning.{outline, plan_of};
 ghost use Rattle.checked.specs.Views.{said};
 
 use crate::parts::Parts;
@@ -15,6 +15,6 @@ pub struct Table {
     pub plan: Plan,
     pub size: usize,
     ghost lawful: { sound (said parts) ≡ true },
-    ghost planned: { plan ≡ plan_of (said parts) },
+    ghost planned: { outline plan ≡ plan_of (said parts) },
     ghost sized: { size ≡ length (write (said parts)) },
 }

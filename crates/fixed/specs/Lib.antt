@@ -1,2 +1,2 @@
-pub mod Holding
 pub mod Pushing
+pub mod Values

@@ -1,5 +1,5 @@
-// A vector of at most `N` values, kept without a heap. Clauses see the list of its values.
-ghost use Rattle.std.specs.Prelude.{◌≡◌, ◌≤◌, [], length, take, codes, Some, ⊤};
+// A vector of at most `N` values, kept without a heap. Clauses speak of the list of its values.
+ghost use Rattle.std.specs.Prelude.{◌≡◌, ◌-◌, ◌≤◌, length, take, drop, replicate, codes, Some, ⊤};
 ghost use Rattle.std.specs.Slice.Iter.{iter_rest};
 ghost use Rattle.std.specs.Iterator.Adapters.{IterYieldsInOrder};
 ghost use Rattle.fixed.specs.Pushing.{inserted, pushed, push_answer};
@@ -8,7 +8,6 @@ use crate::blank::Blank;
 use std::alloc::AllocError;
 use std::error::Error;
 use std::fmt;
-use std::marker::Model;
 use std::slice::Iter;
 
 // No place is free.
@@ -25,31 +24,20 @@ impl fmt::Display for Full {
 
 impl Error for Full {}
 
-// The places behind the last value hold blanks, so that clauses see two vectors of the same values as one. It is
-// not the kit's `ArrayVec`: that one is not `Copy`, as the tables are that are made of these.
+// The places behind the last value hold blanks, so that two vectors of the same values are the same. It is not the
+// kit's `ArrayVec`: that one is not `Copy`, as the tables are that are made of these. Nor does it implement `Model`,
+// by which a clause would see the list in its place: then a layer over any source that holds such a type by value gets
+// no proof over the log reader, and how many values there are at most is known only from what is called.
 #[derive(Copy)]
 pub struct FixedVec<T: Blank, const N: usize> {
     items: [T; N],
     count: usize,
+    ghost few: { count ≤ N },
+    ghost long: { length items ≡ N },
+    ghost behind: { drop count items ≡ replicate (N - count) T.blank },
 }
 
-impl<T: Blank, const N: usize> Model for FixedVec<T, N> {
-    ghost use Rattle.std.specs.Prelude.{List, length, take};
-    ghost use Rattle.std.proofs.Common.{ap₂};
-    ghost use Rattle.fixed.specs.Holding.{Holds, filled, filled_held, length_held};
-
-    ghost Value = { List T };
-
-    ghost view = { λ v. take v.count v.items };
-
-    ghost invariant = { λ v. Holds T.blank N v.items v.count };
-
-    ghost inverse = { λ xs. record { items = filled T.blank N xs; count = length xs } };
-
-    ghost inverse_ok = { λ _ h. ap₂ (λ is n. record { items = is; count = n }) (filled_held h) (length_held h) };
-}
-
-// By hand: the check finds no proof of a derived clone, which clones each place.
+// By hand: none is derived for a struct with ghost fields over a type parameter, since a derived one clones each place.
 impl<T: Blank, const N: usize> Clone for FixedVec<T, N> {
     ghost is_clone = { λ v w. w ≡ v };
 
@@ -61,7 +49,9 @@ impl<T: Blank, const N: usize> Clone for FixedVec<T, N> {
 }
 
 impl<T: Blank, const N: usize> Blank for FixedVec<T, N> {
-    ghost blank = { [] };
+    ghost use Rattle.fixed.specs.Values.{empty};
+
+    ghost blank = { empty };
 
     fn blank() -> FixedVec<T, N> {
         FixedVec::new()
@@ -69,9 +59,12 @@ impl<T: Blank, const N: usize> Blank for FixedVec<T, N> {
 }
 
 impl<T: Blank, const N: usize> FixedVec<T, N> {
+    ghost use Rattle.fixed.specs.Values as vector;
+    ghost use Rattle.fixed.specs.Values.{empty, values};
+
     // A vector of no value.
     pub fn new() -> FixedVec<T, N>
-        ensures { result ≡ [] }
+        ensures { result ≡ empty }
     {
         FixedVec {
             items: [T::blank(); N],
@@ -81,7 +74,7 @@ impl<T: Blank, const N: usize> FixedVec<T, N> {
 
     // The first values of a slice, as many as there are places.
     pub fn starting(values: &[T]) -> FixedVec<T, N>
-        ensures { result ≡ take N values.now }
+        ensures { vector.values result ≡ take N values.now }
     {
         let count = values.len().min(N);
         let mut items = [T::blank(); N];
@@ -90,23 +83,23 @@ impl<T: Blank, const N: usize> FixedVec<T, N> {
     }
 
     pub fn as_slice(&self) -> &[T]
-        ensures values { result.now ≡ self.now }
-        ensures few { length self.now ≤ N }
+        ensures values { result.now ≡ values self.now }
+        ensures few { length (values self.now) ≤ N }
     {
         &self.items[..self.count]
     }
 
     pub fn len(&self) -> usize
-        ensures count { result ≡ length self.now }
-        ensures few { length self.now ≤ N }
+        ensures count { result ≡ length (values self.now) }
+        ensures few { length (values self.now) ≤ N }
     {
         self.as_slice().len()
     }
 
     // Puts a value behind the others; refused where no place is free.
     pub fn push(&mut self, value: T) -> Result<(), Full>
-        ensures answers { result ≡ push_answer N self.old }
-        ensures pushes { self.new ≡ pushed N value self.old }
+        ensures answers { result ≡ push_answer N (values self.old) }
+        ensures pushes { values self.new ≡ pushed N value (values self.old) }
     {
         if self.count == N {
             return Err(Full);
@@ -119,8 +112,8 @@ impl<T: Blank, const N: usize> FixedVec<T, N> {
     // Puts a value at a place, before those that stand from there on; refused where no place is free. Past the last
     // value it goes behind the others.
     pub fn insert(&mut self, at: usize, value: T) -> Result<(), Full>
-        ensures answers { result ≡ push_answer N self.old }
-        ensures inserts { self.new ≡ inserted N at value self.old }
+        ensures answers { result ≡ push_answer N (values self.old) }
+        ensures inserts { values self.new ≡ inserted N at value (values self.old) }
     {
         let at = at.min(self.count);
         self.push(value)?;
@@ -135,7 +128,9 @@ impl<'a, T: Blank, const N: usize> IntoIterator for &'a FixedVec<T, N> {
 
     type IntoIter = Iter<'a, T>;
 
-    ghost into_iter_gives = { λ v r. (iter_rest r ≡ v.now) × (length (iter_rest r) ≤ N) × IterYieldsInOrder T };
+    ghost use Rattle.fixed.specs.Values.{values};
+
+    ghost into_iter_gives = { λ v r. (iter_rest r ≡ values v.now) × (length (iter_rest r) ≤ N) × IterYieldsInOrder T };
 
     fn into_iter(self) -> Iter<'a, T> {
         self.as_slice().iter()

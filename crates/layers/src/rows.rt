@@ -6,8 +6,8 @@ use fixed::Full;
 use items::item::{Item, Row};
 
 // Rows, and not items, each made an item again after a check, are the form that the project asks for.
-// This is no `FixedVec`, which a contract would see as its list: over lent bytes a pile of layers that hold such vectors
-// gets no proof from the checker where it is passed on by value.
+// This is no `FixedVec`: that one takes no first value out, wants a blank of its values, and says nothing of them, where
+// each row has to make an item.
 #[derive(Clone, Copy)]
 pub(crate) struct Rows<const N: usize> {
     rows: [Row; N],

@@ -1,4 +1,5 @@
 // Piles of layers, tried.
+use crate::named::Named;
 use crate::ticks::Ticks;
 use items::cause::{Cause, End, Fault, Refusal};
 use items::feed::Feed;
@@ -18,6 +19,14 @@ fn next<S: Source>(source: &mut S) -> Result<u64, End> {
     let mut place = Item::Marked(Mark { time: 0 });
     source.take(&mut place)?;
     Ok(place.time())
+}
+
+// What a pile, handed on by value, answers after so many items.
+fn last<S: Source + Drop>(mut pile: S, items: u8) -> Result<u64, End> {
+    for _ in 0..items {
+        next(&mut pile)?;
+    }
+    next(&mut pile)
 }
 
 #[test]
@@ -81,6 +90,23 @@ fn a_cover_between_queues_over_a_log(rt: HostRuntime) -> Result<(), Fail> {
     };
     assert_eq!(rt; pile.take(&mut place), Err(End::Broken(fault)));
     assert_eq!(rt; fault.cause.number(), 11);
+    Ok(())
+}
+
+#[test]
+fn a_name_between_layers_over_a_log(rt: HostRuntime) -> Result<(), Fail> {
+    let named = Named::new(Queue::new(LogReader::new(&LOG)), b"a name of 18 bytes");
+    assert_eq!(rt; named.name(), b"a name of 18 byt".as_slice());
+    let mut pile = Queue::new(Cover::new(named, 1));
+    assert_eq!(rt; pile.fill_queue(1, 1), Some(1));
+    assert_eq!(rt; pile.fill_queue(0, 9), Some(2));
+    assert_eq!(rt; next(&mut pile), Ok(5));
+    let fault = Fault {
+        cause: Cause::Cut,
+        place: 36,
+        distance: 4,
+    };
+    assert_eq!(rt; last(pile, 1), Err(End::Broken(fault)));
     Ok(())
 }
 

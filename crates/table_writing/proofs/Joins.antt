@@ -1,6 +1,7 @@
 -- The bytes of a table, as those of each kind of field joined.
 use Rattle.std.proofs.Common.{◌≡◌, ℕ, List, [], ◌∷◌, ◌++◌, map, subst, sym, refl, ap, ◌∙◌}
 use Rattle.std.proofs.lemmas.List.{append_assoc, append-nil}
+use Rattle.fixed.specs.Values.{values}
 use Rattle.tables.specs.Kinds.{Said, input, life, output, trigger}
 use Rattle.tables.specs.Tables.{field_bytes, fields_bytes, write}
 use Rattle.checked.specs.declared.parts.Parts.{Parts}
@@ -19,21 +20,22 @@ fields_append (x ∷ xs) ys = ap (λ l. field_bytes x ++ l) (fields_append xs ys
 
 module _ (p : Parts) where
   abbrev pub inputs_bytes : List ℕ
-  inputs_bytes = fields_bytes (map input p.inputs)
+  inputs_bytes = fields_bytes (map (λ n. input (values n)) (values p.inputs))
 
   abbrev pub outputs_bytes : List ℕ
-  outputs_bytes = fields_bytes (map (λ o. output (output_of o)) p.outputs)
+  outputs_bytes = fields_bytes (map (λ o. output (output_of o)) (values p.outputs))
 
   abbrev pub triggers_bytes : List ℕ
-  triggers_bytes = fields_bytes (map (λ g. trigger (trigger_of g)) p.triggers)
+  triggers_bytes = fields_bytes (map (λ g. trigger (trigger_of g)) (values p.triggers))
 
   pub write_joined : write (said p) ≡ field_bytes (life p.life) ++ (inputs_bytes ++ (outputs_bytes ++ triggers_bytes))
   write_joined =
       let os = map output (said p).outputs in
       let gs = map trigger (said p).triggers in
-      let outputs = fields_said output output_of p.outputs in
-      let triggers = fields_said trigger trigger_of p.triggers in
-      ap (λ l. field_bytes (life p.life) ++ l) (fields_append (map input p.inputs) (os ++ gs) ∙ ap (λ l. inputs_bytes ++ l) (fields_append os gs ∙ (λ i. outputs i ++ triggers i)))
+      let inputs = fields_said input values (values p.inputs) in
+      let outputs = fields_said output output_of (values p.outputs) in
+      let triggers = fields_said trigger trigger_of (values p.triggers) in
+      ap (λ l. field_bytes (life p.life) ++ l) (fields_append (map input (said p).inputs) (os ++ gs) ∙ (λ i. inputs i ++ (fields_append os gs ∙ (λ j. outputs j ++ triggers j)) i))
 
 -- a table's fields are written one kind behind another
 module _ (p : Parts) (a b : Writer) (lives : Wrote (field_bytes (life p.life)) a b) where

@@ -42,7 +42,10 @@ impl Content for Life {
 }
 
 impl Content for Name {
-    ghost said = { kinds.input };
+    ghost use Rattle.fixed.specs.Values.{values};
+    ghost use Rattle.tables.specs.Kinds as kinds;
+
+    ghost said = { λ n. kinds.input (values n) };
 
     fn tag(&self) -> Tag {
         Tag::Input

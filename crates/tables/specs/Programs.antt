@@ -1,5 +1,6 @@
 -- The operations of an output, one after another, and as a program.
 use Rattle.std.specs.Prelude.{ℕ, ◌+◌, ◌-◌, cond, ◌&&◌, List, [], ◌∷◌, Some, None, Ok, Err, Option, Result, nat_le, nat_lt}
+use Rattle.fixed.specs.Values.{values}
 use Rattle.tables.specs.declared.flaw.Flaw.{Flaw}
 use Rattle.tables.specs.declared.op.Op.{Op}
 use Rattle.tables.specs.declared.op.Program.{Program}
@@ -18,7 +19,7 @@ all_ops w bs = ops 16 w (λ os. Ok os) bs
 
 -- the operations that a program holds
 abbrev pub listed : Program → List Op
-listed p = p.ops
+listed p = values p.ops
 
 -- a program by its operations, and a refusal by its number
 abbrev pub told : Result Program Flaw → Result (List Op) ℕ

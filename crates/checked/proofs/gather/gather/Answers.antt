@@ -1,6 +1,7 @@
 use Rattle.std.proofs.Common.{sym, ◌∙◌, arith}
 use Rattle.std.proofs.lemmas.List.{length-map}
 use Rattle.std.proofs.lemmas.Result.{err_from_is_err_and}
+use Rattle.fixed.specs.Values.{values}
 use Rattle.checked.specs.Gathering.{making}
 use Rattle.checked.specs.Views.{output_of}
 use Rattle.checked.proofs.Walking.{walk_ends, walk_more, walk_none, walk_room, walk_start, walk_stops}
@@ -28,7 +29,7 @@ pub loop-at-preserved : goal.loop-at-preserved
 loop-at-preserved c = walk_more _ _ _ c.loop-at.invariant c.in_ok-at.field-0 (making c.field.new.self) c.loop-at-test.true c.in_ok-at.ensures
 
 pub returns-then-len-eq0 : goal.returns-then-len-eq0
-returns-then-len-eq0 c = rw c.at.ensures (walk_none _ _ _ c.loop-at.invariant c.len.result c.loop-at-test.false (c.len.ensures.count ∙ sym (length-map c.loop-at.gathered.parts.outputs output_of)) c.if-len-eq0.true)
+returns-then-len-eq0 c = rw c.at.ensures (walk_none _ _ _ c.loop-at.invariant c.len.result c.loop-at-test.false (c.len.ensures.count ∙ sym (length-map (values c.loop-at.gathered.parts.outputs) output_of)) c.if-len-eq0.true)
 
 pub returns : goal.returns
-returns c = walk_ends _ _ _ c.loop-at.invariant c.len.result c.loop-at-test.false (c.len.ensures.count ∙ sym (length-map c.loop-at.gathered.parts.outputs output_of)) c.if-len-eq0.false
+returns c = walk_ends _ _ _ c.loop-at.invariant c.len.result c.loop-at-test.false (c.len.ensures.count ∙ sym (length-map (values c.loop-at.gathered.parts.outputs) output_of)) c.if-len-eq0.false

@@ -12,5 +12,5 @@ decreases-output_layer l = 2 * l.depth
 
 abbrev pub invariant-output_layer-loop-op : goal.invariant-output_layer-loop-op
 invariant-output_layer-loop-op l =
-    (greatest (layer (reads (said l.self)) (l.depth - 1)) (asked (length l.self.inputs) l.output l.op-iterator.rest.now) l.top ≡ greatest (layer (reads (said l.self)) (l.depth - 1)) (reads (said l.self) l.output) 0)
+    (greatest (layer (reads (said l.self)) (l.depth - 1)) (asked (length (said l.self).inputs) l.output l.op-iterator.rest.now) l.top ≡ greatest (layer (reads (said l.self)) (l.depth - 1)) (reads (said l.self) l.output) 0)
     × (l.top ≤ l.depth - 1)

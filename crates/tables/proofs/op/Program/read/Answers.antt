@@ -1,5 +1,6 @@
 use Rattle.std.proofs.Common.{◌+◌, length, ap, refl, rules, arith}
 use Rattle.std.proofs.lemmas.Result.{err_from_is_err_and}
+use Rattle.fixed.specs.Values.{values}
 use Rattle.tables.proofs.Operations.{length_more, work_stops, work_more}
 use Rattle.tables.proofs.op.Program.read.Goals as goal
 
@@ -12,7 +13,7 @@ returns-in_err-op c =
     rw (p.1, p.2) (work_stops _ _ _ _ _ c.loop-rest.invariant (search rules) (search rules) _ c.in_err-op.ensures)
 
 pub loop-rest-smaller : goal.loop-rest-smaller
-loop-rest-smaller c = omega (arith, ap length c.push.ensures.pushes, length_more c.in_ok-op.op c.loop-rest.ops (search rules))
+loop-rest-smaller c = omega (arith, ap length c.push.ensures.pushes, length_more c.in_ok-op.op (values c.loop-rest.ops) (search rules))
 
 pub loop-rest-preserved : goal.loop-rest-preserved
 loop-rest-preserved c =
