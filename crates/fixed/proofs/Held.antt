@@ -1,5 +1,5 @@
 -- What arrays hold after a slice is copied into them, and after a value more.
-use Rattle.std.proofs.Common.{◌≡◌, ℕ, ◌+◌, ◌-◌, ◌<◌, ◌≤◌, List, [], ◌∷◌, ◌++◌, length, ltb, min, take, drop, set, replicate, sym, ap, ap₂, ◌∙◌, subst, ⊎_elim, arith, length-take-le}
+use Rattle.std.proofs.Common.{◌≡◌, ℕ, ◌+◌, ◌-◌, ◌<◌, ◌≤◌, List, [], ◌∷◌, ◌++◌, length, ltb, min, take, drop, set, replicate, sym, refl, ap, ap₂, ◌∙◌, subst, ⊎_elim, arith, length-take-le}
 use borrow.Rule.Slice.PartMut.{post_of, put_mid}
 use Rattle.std.proofs.Math.Seq.{drop-append_seam, take-append_seam}
 use Rattle.std.proofs.lemmas.List.{append_assoc, drop-append-le, drop-drop, drop-replicate, drop-set-lt, drop-take, drop_all, length-append, length-drop, length-replicate, length-set, take_all, take_at, take-append-drop, take-append-le, take-take}
@@ -29,20 +29,21 @@ filled_held {items = items} {count = count} h = rw (length_held h, ← h.behind)
 pub held : {T : Type 0} {n : ℕ} {b : Ghosts T} (v : FixedVec T n b) → Holds b.blank n v.items v.count
 held v = record { few = v.few; long = v.long; behind = v.behind }
 
--- a list at the start of an array of blanks
-pub start_held : {A : Type 0} (blank : A) (n : ℕ) (xs : List A) (count : ℕ) → length xs ≡ count → count ≤ n → Holds blank n (xs ++ drop count (replicate n blank)) count
-start_held b n xs c long few =
+-- a list at the start of an array of blanks, and what stands behind it
+pub start_long : {A : Type 0} (blank : A) (n : ℕ) (xs : List A) (count : ℕ) → length xs ≡ count → count ≤ n → length (xs ++ drop count (replicate n blank)) ≡ n
+start_long b n xs c long few =
     let behind : length (drop c (replicate n b)) ≡ n - c = length-drop c (replicate n b) ∙ ap (λ k. k - c) (length-replicate n b) in
-    record {
-      few = few;
-      long = length-append xs (drop c (replicate n b)) ∙ omega (arith, behind, long);
-      behind = ap (λ k. drop k (xs ++ drop c (replicate n b))) (sym long) ∙ drop-append_seam xs (drop c (replicate n b)) ∙ drop-replicate c n b;
-    }
+    length-append xs (drop c (replicate n b)) ∙ omega (arith, behind, long)
+
+pub start_behind : {A : Type 0} (filler blank : A) (n : ℕ) (xs : List A) (count : ℕ) → length xs ≡ count → filler ≡ blank → drop count (xs ++ drop count (replicate n filler)) ≡ replicate (n - count) blank
+start_behind f b n xs c long is =
+    ap (λ k. drop k (xs ++ drop c (replicate n f))) (sym long) ∙ drop-append_seam xs (drop c (replicate n f)) ∙ drop-replicate c n f ∙ ap (replicate (n - c)) is
 
 -- the array of a list holds it
 pub filled_holds : {A : Type 0} (b : A) (n : ℕ) (xs : List A) (count : ℕ) → length xs ≡ count → count ≤ n → Holds b n (filled b n xs) count
 filled_holds b n xs count long few =
-    subst (λ k. Holds b n (xs ++ k) count) (drop-replicate count n b ∙ ap (λ k. replicate (n - k) b) (sym long)) (start_held b n xs count long few)
+    subst (λ k. Holds b n (xs ++ k) count) (drop-replicate count n b ∙ ap (λ k. replicate (n - k) b) (sym long))
+    (record { few = few; long = start_long b n xs count long few; behind = start_behind b b n xs count long refl })
 
 -- the first blank behind the values gives way to a value
 pub push_held : {T : Type 0} {n : ℕ} {b : Ghosts T} (v : FixedVec T n b) → v.count < n → (a : T) → Holds b.blank n (set v.items v.count a) (v.count + 1)

@@ -73,6 +73,7 @@ impl<T: Blank, const N: usize> FixedVec<T, N> {
     }
 
     // The first values of a slice, as many as there are places.
+    #[tactic(auto, using(crate::proofs::Held::start_behind, crate::proofs::Held::start_long))]
     pub fn starting(values: &[T]) -> FixedVec<T, N>
         ensures { vector.values result ≡ take N values.now }
     {
